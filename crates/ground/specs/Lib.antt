@@ -1,0 +1,11 @@
+-- The ground floor's definitions, to be read beside document 01, "What the book is", and the laws that the storeys above cite.
+pub mod Boxes
+pub mod Cutting
+pub mod Dates
+pub mod Tests
+pub mod Facts
+pub mod Axes
+pub mod BoxLaws
+pub mod CutLaws
+pub mod DateLaws
+pub mod Examples
