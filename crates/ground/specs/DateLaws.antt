@@ -11,24 +11,11 @@ use borrow.Author.Tests.{leb-true, not-true, not-false, eqb-true, eqb-false, ne-
 use lib.Dec.{leb, ltb, eqb, lit≤}
 use lib.ListN.{getD, List·getD-eq-default}
 use Rattle.ground.specs.Boxes.{dayLimit}
-use Rattle.ground.specs.Dates.{firstYear, lastYear, leap, lengthOfYear, lengthOfMonth, monthLengths, isDate, total, daysBeforeYear, daysBeforeMonth, dayNumber, dayOf, earlier}
+use Rattle.ground.specs.Dates.{firstYear, lastYear, leap, lengthOfYear, lengthOfMonth, monthLengths, isDate, daysBeforeYear, daysBeforeMonth, dayNumber, dayOf, earlier}
+use Rattle.ground.specs.Sums.{total, total-step}
 use Rattle.ground.specs.Tests.{both, three, either, same-test, below-or-not}
 use Rattle.ground.specs.declared.dates.Date.{Date}
 use Rattle.ground.specs.declared.dates.DayNumber.the-variants.{Day, NoSuchDate}
-
--- a sum's next step, and that a step lies below every later sum
-pub total-next : (f : ℕ → ℕ) (n : ℕ) → total f (n + 1) ≡ total f n + f n
-unfolding total
-total-next f n = rw add-one
-
-total-step : (f : ℕ → ℕ) (i n : ℕ) → i < n → total f i + f i ≤ total f n
-unfolding total
-total-step f i zero p = omega arith
-total-step f i (suc n) p =
-    ⊎-elim
-    (λ (h : i < n). let k = total-step f i n h in omega arith)
-    (λ (h : n ≤ i). let e : i ≡ n = omega arith in rw e (omega arith))
-    (below-or-not i n)
 
 -- each fourth year from 1880 on has a leap day
 pub years-closed : (n : ℕ) → total (λ k. lengthOfYear (firstYear + k)) n ≡ n * 365 + (n + 3) / 4

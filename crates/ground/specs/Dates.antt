@@ -1,9 +1,10 @@
 -- Document 01, "What the book is": the calendar. Day 0 is 1880-01-01; the last day is 2039-12-31.
-use Prim.Native.Nat.{ℕ, zero, suc, _+_, _-_, _%_}
+use Prim.Native.Nat.{ℕ, _+_, _-_, _%_}
 use mathlib.Core.Bool.{Bool, true, false, _&&_, _||_, cond}
 use mathlib.Core.List.{List, [], _∷_}
 use lib.Dec.{leb, ltb, eqb}
 use lib.ListN.{getD}
+use Rattle.ground.specs.Sums.{total}
 use Rattle.ground.specs.declared.dates.Date.{Date}
 use Rattle.ground.specs.declared.dates.DayNumber.{DayNumber}
 use Rattle.ground.specs.declared.dates.DayNumber.the-variants.{Day, NoSuchDate}
@@ -31,11 +32,6 @@ lengthOfMonth y m = cond (eqb m 2 && leap y) 29 (getD (0 ∷ monthLengths) m 0)
 -- A date of the calendar: a year from 1880 to 2039, and a day from 1 to the length of its month.
 unfoldable pub isDate : Date → Bool
 isDate d = leb firstYear (d .year) && leb (d .year) lastYear && leb 1 (d .day) && leb (d .day) (lengthOfMonth (d .year) (d .month))
-
--- The sum of f over the first n numbers, 0 to n - 1.
-unfoldable pub total : (ℕ → ℕ) → ℕ → ℕ
-total f zero = 0
-total f (suc n) = total f n + f n
 
 -- The days of all years from 1880 to the one before, and of all months of the year from the first to the one before.
 unfoldable pub daysBeforeYear : ℕ → ℕ

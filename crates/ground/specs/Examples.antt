@@ -4,7 +4,8 @@ use mathlib.Core.Path.{_≡_, refl}
 use Prim.Native.Nat.{ℕ}
 use Rattle.ground.specs.Boxes.{touchesOn, touches, covers, legal, gustPasses}
 use Rattle.ground.specs.Cutting.{coversOneEnd, cutsOn, leftOn, left, cut}
-use Rattle.ground.specs.Dates.{lengthOfYear, lengthOfMonth, isDate, total, daysBeforeYear, daysBeforeMonth, dayNumber, dayOf}
+use Rattle.ground.specs.Dates.{lengthOfYear, lengthOfMonth, isDate, daysBeforeYear, daysBeforeMonth, dayNumber, dayOf}
+use Rattle.ground.specs.Sums.{total}
 use Rattle.ground.specs.declared.boxes.Range.{Range}
 use Rattle.ground.specs.declared.boxes.Box.{Box}
 use Rattle.ground.specs.declared.boxes.Cut.the-variants.{Left, Unchanged}

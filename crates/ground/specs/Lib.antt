@@ -3,9 +3,11 @@ pub mod Boxes
 pub mod Cutting
 pub mod Dates
 pub mod Tests
+pub mod Sums
 pub mod Facts
 pub mod Axes
 pub mod BoxLaws
+pub mod CellLaws
 pub mod CutLaws
 pub mod DateLaws
 pub mod Examples
