@@ -1,0 +1,100 @@
+//! Times the proved functions beside the second program's, in one run, as ratios.
+use bench::{book, proved, Seed, SPARSE};
+use second::well_formed;
+use std::hint::black_box;
+use std::time::Instant;
+
+/// Nanoseconds for one call, the best of several rounds of both in turn, so that both meet the same machine.
+fn beside(turns: usize, mut ours: impl FnMut(), mut theirs: impl FnMut()) -> (f64, f64) {
+    let mut best = (f64::MAX, f64::MAX);
+    for _ in 0..15 {
+        let start = Instant::now();
+        (0..turns).for_each(|_| ours());
+        best.0 = best.0.min(start.elapsed().as_nanos() as f64 / turns as f64);
+        let start = Instant::now();
+        (0..turns).for_each(|_| theirs());
+        best.1 = best.1.min(start.elapsed().as_nanos() as f64 / turns as f64);
+    }
+    best
+}
+
+fn row(name: &str, pages: usize, per: usize, unit: &str, (ours, theirs): (f64, f64)) {
+    let (a, b) = (ours / per as f64, theirs / per as f64);
+    println!(
+        "{name:<34} {pages:>6} {a:>10.3} {b:>10.3} {:>8.2}   {unit}",
+        a / b
+    );
+}
+
+/// The plain loop that images are held against.
+#[inline(never)]
+fn copy_bytes(from: &[u8], to: &mut [u8]) {
+    for (x, y) in from.iter().zip(to) {
+        *y = *x;
+    }
+}
+
+fn main() {
+    let mut seed = Seed(0x9e37_79b9_7f4a_7c15);
+    println!(
+        "{:<34} {:>6} {:>10} {:>10} {:>8}",
+        "", "pages", "proved", "other", "ratio"
+    );
+    for pages in [64, 180, 1024, 4096] {
+        let (table, small) = book(pages, usize::MAX, &SPARSE, &mut seed);
+        assert_eq!(
+            proved::check(&table, &small),
+            well_formed(&table, &small).map(|s| s.held)
+        );
+        let turns = 400_000 / pages;
+        let both = beside(
+            turns,
+            || assert!(black_box(proved::check(black_box(&table), &small)).is_some()),
+            || assert!(black_box(well_formed(black_box(&table), &small)).is_some()),
+        );
+        row(
+            "well-formed, second program",
+            pages,
+            table.len(),
+            "ns a word",
+            both,
+        );
+
+        let mut image = vec![0u8; 2 * table.len() + 22];
+        let other = vec![7u8; 2 * table.len() + 22];
+        let mut copy = other.clone();
+        let both = beside(
+            turns,
+            || {
+                assert!(proved::encode(
+                    black_box(&table),
+                    &small,
+                    black_box(&mut image)
+                ))
+            },
+            || copy_bytes(black_box(&other), black_box(&mut copy)),
+        );
+        row(
+            "encode, byte by byte copy",
+            pages,
+            image.len(),
+            "ns a byte",
+            both,
+        );
+
+        let mut back = vec![0u16; table.len()];
+        let both = beside(
+            turns,
+            || assert!(proved::decode(black_box(&image), black_box(&mut back))),
+            || copy_bytes(black_box(&other), black_box(&mut copy)),
+        );
+        assert_eq!(back, table);
+        row(
+            "decode, byte by byte copy",
+            pages,
+            image.len(),
+            "ns a byte",
+            both,
+        );
+    }
+}

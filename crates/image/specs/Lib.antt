@@ -1,0 +1,6 @@
+-- The image's definitions, to be read beside document 01, "Saved image", and the laws that the storeys above cite.
+pub mod Bytes
+pub mod Image
+pub mod ByteLaws
+pub mod TrailerLaws
+pub mod ImageLaws

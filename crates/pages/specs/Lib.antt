@@ -1,0 +1,13 @@
+-- The pages' definitions, to be read beside document 01, "Pages", and the laws that the storeys above cite.
+pub mod Layout
+pub mod Summary
+pub mod Free
+pub mod Facts
+pub mod LayoutLaws
+pub mod Words
+pub mod WordLaws
+pub mod WritingLaws
+pub mod SummaryLaws
+pub mod GatherLaws
+pub mod FreeLaws
+pub mod Examples

@@ -1,0 +1,84 @@
+// Inner functions of the book, exported for the benchmarks alone. What a shop calls is elsewhere.
+use image::Trailer;
+use pages::Page;
+use pages::Small;
+use wellformed::Checked;
+ghost use mathlib.Core.Path.{_≡_};
+ghost use Rattle.probe.specs.Probe.{checkedNumber};
+
+// 0 for a damaged book, else the number of held records and one more.
+#[no_mangle]
+pub extern "C" fn gust_probe_check(
+    table: &[u16],
+    root: u32,
+    height: u32,
+    accepted: u32,
+    struck: u32,
+    covered: u32,
+) -> u64
+    ensures { λ r. ⌜ r ≡ checkedNumber (now (table .entry)) root height accepted struck covered ⌝ }
+{
+    let small = Small {
+        root,
+        height,
+        accepted,
+        struck,
+        covered,
+    };
+    match wellformed::check(table, small) {
+        Checked::Held(n) => n as u64 + 1,
+        Checked::Damaged => 0,
+    }
+}
+
+// Whether the buffer had the image's length, and was filled.
+#[no_mangle]
+pub extern "C" fn gust_probe_encode(
+    table: &[u16],
+    root: u32,
+    height: u32,
+    accepted: u32,
+    struck: u32,
+    covered: u32,
+    out: &mut [u8],
+) -> u8 {
+    let small = Small {
+        root,
+        height,
+        accepted,
+        struck,
+        covered,
+    };
+    if pages::table_fits(table) {
+        if out.len() == 2 * table.len() + Trailer::BYTES {
+            image::encode(table, small, Trailer::FORM, out);
+            return 1;
+        }
+    }
+    0
+}
+
+// Whether the image had the table's length, and its pages were read.
+#[no_mangle]
+pub extern "C" fn gust_probe_decode(image: &[u8], table: &mut [u16]) -> u8 {
+    if pages::table_fits(table) {
+        if image.len() == 2 * table.len() + Trailer::BYTES {
+            image::decode(image, table);
+            return 1;
+        }
+    }
+    0
+}
+
+// The strongest gust of a page's summary, and 0 where the table has no such page.
+#[no_mangle]
+pub extern "C" fn gust_probe_summary(table: &[u16], p: usize) -> u16 {
+    if !pages::table_fits(table) {
+        return 0;
+    }
+    if p < table.len() / Page::WORDS {
+        let e = pages::summary_at(table, p);
+        return e.gust;
+    }
+    0
+}
