@@ -1,5 +1,5 @@
 -- The tests on boxes as facts on numbers, which arithmetic reads: a record beside each test, and a bridge each way.
-use mathlib.Core.Bool.{true, false, false≢true}
+use mathlib.Core.Bool.{Bool, true, false, _&&_, false≢true}
 use mathlib.Core.Logic.{⊎-elim}
 use mathlib.Core.Path.{_≡_, sym, _∙_}
 use Prim.Native.Nat.{ℕ, _≤_, _<_}
@@ -59,17 +59,23 @@ touching-on r s e = let h = orders (r .low) (s .high) (s .low) (r .high) e in re
 pub touches-on-so : (r s : Range) → TouchingOn r s → touchesOn r s ≡ true
 touches-on-so r s h = ordered (r .low) (s .high) (s .low) (r .high) (h .one) (h .other)
 
+-- a test made on each axis, as facts on each and back
+on-each : (f : Range → Range → Bool) (F : Range → Range → Type 0) → ((r s : Range) → f r s ≡ true → F r s) → (a b : Box) → f (a .east) (b .east) && f (a .north) (b .north) && f (a .day) (b .day) ≡ true → F (a .east) (b .east) × F (a .north) (b .north) × F (a .day) (b .day)
+on-each f F g a b e =
+    let h = three (f (a .east) (b .east)) (f (a .north) (b .north)) (f (a .day) (b .day)) e in
+    (g (a .east) (b .east) (h .0), g (a .north) (b .north) (h .1), g (a .day) (b .day) (h .2))
+
+on-each-so : (f : Range → Range → Bool) (F : Range → Range → Type 0) → ((r s : Range) → F r s → f r s ≡ true) → (a b : Box) → F (a .east) (b .east) → F (a .north) (b .north) → F (a .day) (b .day) → f (a .east) (b .east) && f (a .north) (b .north) && f (a .day) (b .day) ≡ true
+on-each-so f F g a b h k l =
+    joint-three (f (a .east) (b .east)) (f (a .north) (b .north)) (f (a .day) (b .day)) (g (a .east) (b .east) h) (g (a .north) (b .north) k) (g (a .day) (b .day) l)
+
 pub touching : (a b : Box) → touches a b ≡ true → Touching a b
 unfolding touches
-touching a b e =
-    let h = three (touchesOn (a .east) (b .east)) (touchesOn (a .north) (b .north)) (touchesOn (a .day) (b .day)) e in
-    record { east = touching-on (a .east) (b .east) (h .0); north = touching-on (a .north) (b .north) (h .1); day = touching-on (a .day) (b .day) (h .2) }
+touching a b e = let h = on-each touchesOn TouchingOn touching-on a b e in record { east = h .0; north = h .1; day = h .2 }
 
 pub touches-so : (a b : Box) → Touching a b → touches a b ≡ true
 unfolding touches
-touches-so a b h =
-    joint-three (touchesOn (a .east) (b .east)) (touchesOn (a .north) (b .north)) (touchesOn (a .day) (b .day))
-    (touches-on-so (a .east) (b .east) (h .east)) (touches-on-so (a .north) (b .north) (h .north)) (touches-on-so (a .day) (b .day) (h .day))
+touches-so a b h = on-each-so touchesOn TouchingOn touches-on-so a b (h .east) (h .north) (h .day)
 
 pub covering-on : (r s : Range) → coversOn r s ≡ true → CoveringOn r s
 covering-on r s e = let h = orders (r .low) (s .low) (s .high) (r .high) e in record { low = h .0; high = h .1 }
@@ -79,15 +85,11 @@ covers-on-so r s h = ordered (r .low) (s .low) (s .high) (r .high) (h .low) (h .
 
 pub covering : (a b : Box) → covers a b ≡ true → Covering a b
 unfolding covers
-covering a b e =
-    let h = three (coversOn (a .east) (b .east)) (coversOn (a .north) (b .north)) (coversOn (a .day) (b .day)) e in
-    record { east = covering-on (a .east) (b .east) (h .0); north = covering-on (a .north) (b .north) (h .1); day = covering-on (a .day) (b .day) (h .2) }
+covering a b e = let h = on-each coversOn CoveringOn covering-on a b e in record { east = h .0; north = h .1; day = h .2 }
 
 pub covers-so : (a b : Box) → Covering a b → covers a b ≡ true
 unfolding covers
-covers-so a b h =
-    joint-three (coversOn (a .east) (b .east)) (coversOn (a .north) (b .north)) (coversOn (a .day) (b .day))
-    (covers-on-so (a .east) (b .east) (h .east)) (covers-on-so (a .north) (b .north) (h .north)) (covers-on-so (a .day) (b .day) (h .day))
+covers-so a b h = on-each-so coversOn CoveringOn covers-on-so a b (h .east) (h .north) (h .day)
 
 pub legal-on : (limit : ℕ) (r : Range) → legalOn limit r ≡ true → LegalOn limit r
 legal-on limit r e = let h = orders (r .low) (r .high) (r .high) limit e in record { order = h .0; within = h .1 }
