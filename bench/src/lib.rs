@@ -64,3 +64,36 @@ pub fn book(
     }
     (table, small)
 }
+
+/// A question of about so many parts in a million of the whole volume, somewhere in it.
+pub fn question(parts: u32, seed: &mut Seed) -> [u16; 6] {
+    let side = (f64::from(parts) / 1e6).cbrt();
+    let mut range = |limit: u32| {
+        let long = ((f64::from(limit) * side) as u32).clamp(1, limit);
+        let low = seed.below(limit - long + 1);
+        [low as u16, (low + long - 1) as u16]
+    };
+    let (e, n, d) = (range(4_096), range(4_096), range(58_440));
+    [e[0], e[1], n[0], n[1], d[0], d[1]]
+}
+
+/// A spoilt table whose every page has one entry, which names the next page, one level lower, and asks for it to be opened.
+pub fn chain(pages: usize) -> (Vec<u16>, SmallRecord) {
+    let mut table = vec![0; pages * PAGE_WORDS];
+    for p in 0..pages {
+        let page = &mut table[p * PAGE_WORDS..][..PAGE_WORDS];
+        page[0] = (pages - p) as u16;
+        page[1] = 1;
+        // A box that the question touches but does not cover, with a strongest box elsewhere.
+        page[2..8].copy_from_slice(&[0, 4_095, 0, 4_095, 0, 58_439]);
+        page[8] = 7;
+        page[10] = (p + 1) as u16;
+        page[11..17].copy_from_slice(&[9, 9, 9, 9, 9, 9]);
+    }
+    let small = SmallRecord {
+        root: 0,
+        height: pages as u32,
+        ..SmallRecord::EMPTY
+    };
+    (table, small)
+}

@@ -1,6 +1,6 @@
 //! Times the proved functions beside the second program's, in one run, as ratios.
-use bench::{book, proved, Seed, SPARSE};
-use second::well_formed;
+use bench::{book, proved, question, Seed, SPARSE};
+use second::{ask, well_formed, GustBox};
 use std::hint::black_box;
 use std::time::Instant;
 
@@ -96,5 +96,35 @@ fn main() {
             "ns a byte",
             both,
         );
+    }
+    for records in [100, 1_000, 10_000] {
+        let (table, small) = book(4_096, records, &SPARSE, &mut seed);
+        for (parts, name) in [(1, "0.0001%"), (10_000, "1%"), (500_000, "50%")] {
+            let questions: Vec<[u16; 6]> = (0..200).map(|_| question(parts, &mut seed)).collect();
+            let places: Vec<GustBox> = questions
+                .iter()
+                .map(|q| GustBox::from(q.map(u32::from)))
+                .collect();
+            let both = beside(
+                20,
+                || {
+                    questions
+                        .iter()
+                        .for_each(|q| assert!(proved::ask(black_box(&table), &small, *q).is_ok()))
+                },
+                || {
+                    places
+                        .iter()
+                        .for_each(|p| assert!(ask(black_box(&table), &small, *p).is_ok()))
+                },
+            );
+            row(
+                &format!("ask, {records} records, {name}"),
+                4_096,
+                questions.len(),
+                "ns a question",
+                both,
+            );
+        }
     }
 }

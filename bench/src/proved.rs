@@ -23,6 +23,19 @@ extern "C" {
         len: usize,
     ) -> u8;
     fn gust_probe_decode(image: *const u8, len: usize, t: *mut u16, n: usize) -> u8;
+    #[allow(clippy::too_many_arguments)]
+    fn gust_probe_ask(
+        t: *const u16,
+        n: usize,
+        root: u32,
+        height: u32,
+        e0: u16,
+        e1: u16,
+        n0: u16,
+        n1: u16,
+        d0: u16,
+        d1: u16,
+    ) -> u64;
 }
 
 /// The number of held records of a well-formed book.
@@ -65,4 +78,29 @@ pub fn decode(image: &[u8], table: &mut [u16]) -> bool {
     let done =
         unsafe { gust_probe_decode(image.as_ptr(), image.len(), table.as_mut_ptr(), table.len()) };
     done == 1
+}
+
+/// The answer to a question: the best gust if any, and the pages opened; or the refusal's number.
+pub fn ask(table: &[u16], s: &SmallRecord, q: [u16; 6]) -> Result<(Option<u32>, u32), u32> {
+    let [e0, e1, n0, n1, d0, d1] = q;
+    // SAFETY: as above.
+    let said = unsafe {
+        gust_probe_ask(
+            table.as_ptr(),
+            table.len(),
+            s.root,
+            s.height,
+            e0,
+            e1,
+            n0,
+            n1,
+            d0,
+            d1,
+        )
+    };
+    if said & 255 != 0 {
+        return Err((said & 255) as u32);
+    }
+    let best = (said >> 8 & 0xff_ffff) as u32;
+    Ok((best.checked_sub(1), (said >> 32) as u32))
 }

@@ -1,6 +1,6 @@
 //! The proved functions give what the second program gives, on good books and spoilt ones.
-use bench::{book, proved, Seed, DENSE, SPARSE};
-use second::{image_length, load, save, well_formed, SmallRecord, PAGE_WORDS};
+use bench::{book, chain, proved, question, Seed, DENSE, SPARSE};
+use second::{ask, image_length, load, save, well_formed, GustBox, SmallRecord, PAGE_WORDS};
 
 fn verdicts(table: &[u16], small: &SmallRecord) -> (Option<u32>, Option<u32>) {
     (
@@ -115,4 +115,71 @@ fn images_agree_byte_for_byte() {
             "seed {start}"
         );
     }
+}
+
+/// Asks both, and says whether the answer was a gust, nothing, or which refusal.
+fn both_asked(table: &[u16], small: &SmallRecord, q: [u16; 6], what: &str) -> usize {
+    let ours = proved::ask(table, small, q);
+    let place = GustBox::from(q.map(u32::from));
+    let theirs = ask(table, small, place)
+        .map(|a| (a.gust, a.pages))
+        .map_err(|r| u32::from(r.number()));
+    assert_eq!(ours, theirs, "{what}: {q:?}");
+    match ours {
+        Ok((Some(_), _)) => 0,
+        Ok((None, _)) => 5,
+        Err(number) => number as usize,
+    }
+}
+
+#[test]
+fn questions_agree_on_good_and_spoilt_books() {
+    let mut seen = [0u32; 6];
+    for start in 1..=200u64 {
+        let mut seed = Seed(start * 0x2545_f491_4f6c_dd1d);
+        let pages = 1 + seed.below(60) as usize;
+        let spread = if start % 2 == 0 { &SPARSE } else { &DENSE };
+        let (mut table, mut small) = book(pages, 400, spread, &mut seed);
+        if start % 7 == 0 {
+            table.pop();
+        }
+        for turn in 0..400 {
+            if turn % 8 == 7 {
+                spoil(&mut table, &mut small, &mut seed);
+            }
+            let mut q = question(
+                [1, 1_000, 100_000, 999_000][seed.below(4) as usize],
+                &mut seed,
+            );
+            if start % 2 == 1 {
+                q = q.map(|x| x % 45);
+            }
+            if turn % 20 == 0 {
+                q[seed.below(6) as usize] = seed.below(65_536) as u16;
+            }
+            seen[both_asked(&table, &small, q, &format!("seed {start}, turn {turn}"))] += 1;
+        }
+    }
+    for (what, least) in [(0, 5_000), (5, 5_000), (1, 1_000), (2, 1_000), (4, 1_000)] {
+        assert!(
+            seen[what] > least,
+            "kind {what} was seen {} times",
+            seen[what]
+        );
+    }
+}
+
+/// All 4,096 pages, one below the other, within 1 MiB of stack.
+#[test]
+fn the_deepest_question_fits_a_small_stack() {
+    let asking = std::thread::Builder::new().stack_size(1 << 20);
+    let answer = asking
+        .spawn(|| {
+            let (table, small) = chain(4_096);
+            proved::ask(&table, &small, [0, 0, 0, 0, 0, 0])
+        })
+        .expect("a thread starts")
+        .join()
+        .expect("it ends");
+    assert_eq!(answer, Ok((Some(7), 4_096)));
 }

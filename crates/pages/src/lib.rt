@@ -14,6 +14,7 @@ pub use reading::count;
 pub use reading::entry_child;
 pub use reading::entry_gust;
 pub use reading::entry_place;
+pub use reading::entry_start;
 pub use reading::entry_strongest;
 pub use reading::entry_union;
 pub use reading::entry_weakest;

@@ -1,10 +1,13 @@
 // Inner functions of the book, exported for the benchmarks alone. What a shop calls is elsewhere.
+use asking::Asked;
+use ground::Box;
+use ground::Range;
 use image::Trailer;
 use pages::Page;
 use pages::Small;
 use wellformed::Checked;
 ghost use mathlib.Core.Path.{_≡_};
-ghost use Rattle.probe.specs.Probe.{checkedNumber};
+ghost use Rattle.probe.specs.Probe.{checkedNumber, askedNumber, packed};
 
 // 0 for a damaged book, else the number of held records and one more.
 #[no_mangle]
@@ -81,4 +84,51 @@ pub extern "C" fn gust_probe_summary(table: &[u16], p: usize) -> u16 {
         return e.gust;
     }
     0
+}
+
+// The answer in one number: the refusal, then the best gust (0 for nothing, a gust and one more) from bit 8 on, then the pages opened from bit 32 on.
+fn pack(a: Asked) -> u64
+    ensures { λ r. ⌜ r ≡ packed a ⌝ }
+{
+    match a {
+        Asked::Refused(number) => number as u64,
+        Asked::Nothing { pages } => pages as u64 * 4294967296,
+        Asked::Gust { gust, pages } => (gust as u64 + 1) * 256 + pages as u64 * 4294967296,
+    }
+}
+
+#[no_mangle]
+pub extern "C" fn gust_probe_ask(
+    table: &[u16],
+    root: u32,
+    height: u32,
+    east_low: u16,
+    east_high: u16,
+    north_low: u16,
+    north_high: u16,
+    day_low: u16,
+    day_high: u16,
+) -> u64
+    ensures { λ r. ⌜ r ≡ askedNumber (now (table .entry)) root height «east_low» «east_high» «north_low» «north_high» «day_low» «day_high» ⌝ }
+{
+    let small = Small {
+        root,
+        height,
+        accepted: 0,
+        struck: 0,
+        covered: 0,
+    };
+    let east = Range {
+        low: east_low,
+        high: east_high,
+    };
+    let north = Range {
+        low: north_low,
+        high: north_high,
+    };
+    let day = Range {
+        low: day_low,
+        high: day_high,
+    };
+    pack(asking::ask(table, small, Box { east, north, day }))
 }

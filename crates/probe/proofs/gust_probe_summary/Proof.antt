@@ -1,3 +1,4 @@
+-- `probe::gust_probe_summary` meets its contract.
 use native.Mathlib.Omega.{arith}
 use mathlib.Core.Path.{sym, _∙_}
 use borrow.Author.Tests.{not-false}
@@ -5,28 +6,19 @@ use Rattle.pages.specs.Facts.{in-table}
 use borrow.Author.Needs.{needs}
 use Rattle.probe.proofs.gust_probe_summary.Statement.{statement}
 use Rattle.probe.proofs.gust_probe_summary.Tie as tie
-use Rattle.probe.proofs.gust_probe_summary.Reads as reads
-use Rattle.probe.proofs.gust_probe_summary.Lts as lts
-use Rattle.pages.proofs.table_fits.Reads as table-fits-reads
-use Rattle.pages.proofs.summary_at.Reads as summary-at-reads
 
--- src/lib.rt:67:9
 table-fits-requires : tie.Need-table-fits-requires
 table-fits-requires c κs = search needs
 
--- src/lib.rt:68:9
 returns : tie.Need-returns
 returns c = search needs
 
--- src/lib.rt:71:13
 summary-at-requires : tie.Need-summary-at-requires
 summary-at-requires c κs = in-table _ _ (sym (c .before .before .table-fits .ensures) ∙ not-false _ (c .before .if1 .left)) (omega arith)
 
--- src/lib.rt:72:9
 returns-2 : tie.Need-returns-2
 returns-2 c = search needs
 
--- src/lib.rt:65:1
 returns-3 : tie.Need-returns-3
 returns-3 c = search needs
 
