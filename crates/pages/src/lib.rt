@@ -10,6 +10,7 @@ pub use free::clear;
 pub use free::free_at_least;
 pub use free::lowest_free;
 use ground::Box;
+pub use reading::box_at;
 pub use reading::count;
 pub use reading::entry_child;
 pub use reading::entry_gust;

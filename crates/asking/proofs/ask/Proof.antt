@@ -1,3 +1,4 @@
+-- `asking::ask` meets its contract.
 use Rattle.asking.specs.Turns.{asked-no-table, asked-no-box, asked-found}
 use Rattle.asking.specs.Bounded.{book-most}
 use borrow.Author.Tests.{not-false}
@@ -5,38 +6,25 @@ use mathlib.Core.Path.{sym, _∙_}
 use borrow.Author.Needs.{needs}
 use Rattle.asking.proofs.ask.Statement.{statement}
 use Rattle.asking.proofs.ask.Tie as tie
-use Rattle.asking.proofs.ask.Reads as reads
-use Rattle.asking.proofs.ask.Lts as lts
-use Rattle.asking.proofs.search.Found.answer.Reads as answer-reads
-use Rattle.asking.proofs.search.search_book.Reads as search-book-reads
-use Rattle.ground.proofs.boxes.Box.legal.Reads as legal-reads
-use Rattle.pages.proofs.table_fits.Reads as table-fits-reads
 
--- src/lib.rt:20:9
 table-fits-requires : tie.Need-table-fits-requires
 table-fits-requires c κs = search needs
 
--- src/lib.rt:21:9
 returns : tie.Need-returns
 returns c = asked-no-table _ _ _ _ (c .before .table-fits .ensures) (c .if1 .taken)
 
--- src/lib.rt:23:9
 legal-requires : tie.Need-legal-requires
 legal-requires c κs = search needs
 
--- src/lib.rt:24:9
 returns-2 : tie.Need-returns-2
 returns-2 c = asked-no-box _ _ _ _ _ (c .before .before .before .table-fits .ensures) (c .before .before .if1 .left) (c .before .legal .ensures) (c .if2 .taken)
 
--- src/lib.rt:26:5
 search-book-requires : tie.Need-search-book-requires
 search-book-requires c κs = sym (c .before .before .before .table-fits .ensures) ∙ not-false _ (c .before .before .if1 .left)
 
--- src/lib.rt:26:5
 answer-requires : tie.Need-answer-requires
 answer-requires c κs = book-most _ _ _ _ (sym (c .before .before .before .before .table-fits .ensures) ∙ not-false _ (c .before .before .before .if1 .left)) (c .search-book .ensures)
 
--- src/lib.rt:17:1
 returns-3 : tie.Need-returns-3
 returns-3 c = asked-found _ _ _ _ _ _ _ (c .before .before .before .before .before .table-fits .ensures) (c .before .before .before .before .if1 .left) (c .before .before .before .legal .ensures) (c .before .before .if2 .left) (c .before .search-book .ensures) (c .answer .ensures)
 

@@ -1,22 +1,16 @@
+-- `sieve::place_touches` meets its contract.
 use borrow.Author.Needs.{needs}
 use native.Mathlib.Omega.{arith}
 use Rattle.sieve.specs.SieveLaws.{Words, place-touched}
 use Rattle.sieve.proofs.place_touches.Statement.{statement}
 use Rattle.sieve.proofs.place_touches.Tie as tie
-use Rattle.sieve.proofs.place_touches.Reads as reads
-use Rattle.sieve.proofs.place_touches.Lts as lts
-use Rattle.pages.proofs.entry_start.Reads as entry-start-reads
-use Rattle.sieve.proofs.words_pass.Reads as words-pass-reads
 
--- src/lib.rt:50:19
 entry-start-requires : tie.Need-entry-start-requires
 entry-start-requires c κs = search needs
 
--- src/lib.rt:50:5
 words-pass-requires : tie.Need-words-pass-requires
 words-pass-requires c κs = search needs
 
--- src/lib.rt:46:1
 returns : tie.Need-returns
 returns c =
     let w : Words (c .before .before .before .args .t .now) = record { small = λ k. omega (arith, c .before .before .shared-slice-known .given k) } in

@@ -1,10 +1,8 @@
+-- `sieve::sieve_of` meets its contract.
 use Rattle.sieve.specs.Sieve.{sieveOf}
 use Rattle.sieve.proofs.sieve_of.Statement.{statement}
 use Rattle.sieve.proofs.sieve_of.Tie as tie
-use Rattle.sieve.proofs.sieve_of.Reads as reads
-use Rattle.sieve.proofs.sieve_of.Lts as lts
 
--- src/lib.rt:13:1
 returns : tie.Need-returns
 unfolding sieveOf
 returns c = cc

@@ -1,3 +1,4 @@
+-- `asking::search::+search_entry+search_page` meets its contract.
 use Rattle.asking.specs.Turns.{opened-record, opened-few, opened-some, gust-small, entry-pass, entry-raise, open-low, entry-opened, entry-refused}
 use Rattle.asking.specs.Turns.{in-use-next, in-use-none, order-turn, order-end, index-start, leaf-page}
 use Rattle.asking.specs.Seen.{OpenedPage, seen, searchedIn}
@@ -63,58 +64,45 @@ abbrev page-calls : ℕ → search-page-lts.Claims
 page-calls t =
     (search-leaf-reads.Asked, search-leaf-reads.Learnt, count-reads.Asked, count-reads.Learnt, search-entry-below t, search-entry.Post)
 
--- src/search.rt:150:11
 search-entry-decide-requires : (t : ℕ) → search-entry-lts.Need-decide-requires (entry-calls t) (search-entry-at t) search-entry.Post
 search-entry-decide-requires t c κs = let h = c .before .pre .1 .0 in (h .here, h .place, h .sieve)
 
--- src/search.rt:151:23
 search-entry-enum-told : (t : ℕ) → search-entry-lts.Need-enum-told (entry-calls t) (search-entry-at t) search-entry.Post
 search-entry-enum-told t c = search needs
 
--- src/search.rt:152:21
 search-entry-enum-known-gust : (t : ℕ) → search-entry-lts.Need-enum-known-gust (entry-calls t) (search-entry-at t) search-entry.Post
 search-entry-enum-known-gust t c = search needs
 
--- src/search.rt:153:19
 search-entry-cast-t13 : (t : ℕ) → search-entry-lts.Need-cast-t13 (entry-calls t) (search-entry-at t) search-entry.Post
 search-entry-cast-t13 t c = search needs
 
--- src/search.rt:153:19
 search-entry-add-t14 : (t : ℕ) → search-entry-lts.Need-add-t14 (entry-calls t) (search-entry-at t) search-entry.Post
 search-entry-add-t14 t c = search needs
 
--- src/search.rt:156:20
 search-entry-enum-known-child : (t : ℕ) → search-entry-lts.Need-enum-known-child (entry-calls t) (search-entry-at t) search-entry.Post
 search-entry-enum-known-child t c = search needs
 
--- src/search.rt:157:28
 search-entry-sub-may-open : (t : ℕ) → search-entry-lts.Need-sub-may-open (entry-calls t) (search-entry-at t) search-entry.Post
 search-entry-sub-may-open t c = search needs
 
--- src/search.rt:157:42
 search-entry-cast-may-open : (t : ℕ) → search-entry-lts.Need-cast-may-open (entry-calls t) (search-entry-at t) search-entry.Post
 search-entry-cast-may-open t c = search needs
 
--- src/search.rt:157:16
 search-entry-may-open-requires : (t : ℕ) → search-entry-lts.Need-may-open-requires (entry-calls t) (search-entry-at t) search-entry.Post
 search-entry-may-open-requires t c κs = c .before .before .before .before .before .pre .1 .0 .fits
 
--- src/search.rt:158:32
 search-entry-cast-search-page : (t : ℕ) → search-entry-lts.Need-cast-search-page (entry-calls t) (search-entry-at t) search-entry.Post
 search-entry-cast-search-page t c = search needs
 
--- src/search.rt:158:48
 search-entry-sub-search-page : (t : ℕ) → search-entry-lts.Need-sub-search-page (entry-calls t) (search-entry-at t) search-entry.Post
 search-entry-sub-search-page t c = search needs
 
--- src/search.rt:158:68
 search-entry-add-search-page : (t : ℕ) → search-entry-lts.Need-add-search-page (entry-calls t) (search-entry-at t) search-entry.Post
 search-entry-add-search-page t c =
     let m = sym (c .before .may-open .ensures) ∙ c .if1 .taken in
     let k = opened-few _ _ _ _ _ (c .before .before .before .before .before .before .before .pre .1 .0 .fits) m in
     record { fits = omega arith }
 
--- src/search.rt:158:17
 search-entry-search-page-requires : (t : ℕ) → search-entry-lts.Need-search-page-requires (entry-calls t) (search-entry-at t) search-entry.Post
 search-entry-search-page-requires t c κs =
     let h = c .before .before .before .before .before .before .before .pre .1 .0 in
@@ -125,28 +113,23 @@ search-entry-search-page-requires t c κs =
       (opened-record _ _ _ _ _ _ _ (h .fits) (h .sieve) (open-low _ _ _ _ (gust-small _ _ _ w) s) m, opened-some _ _ _ _ _ m),
     )
 
--- src/search.rt:160:17
 search-entry-refused-requires : (t : ℕ) → search-entry-lts.Need-refused-requires (entry-calls t) (search-entry-at t) search-entry.Post
 search-entry-refused-requires t c κs = search needs
 
--- src/search.rt:144:1
 search-entry-returns : (t : ℕ) → search-entry-lts.Need-returns (entry-calls t) (search-entry-at t) search-entry.Post
 search-entry-returns t c = entry-pass _ _ _ _ _ (sym (c .enum-told .given .1) ∙ c .before .before .decide .ensures)
 
--- src/search.rt:144:1
 search-entry-returns-2 : (t : ℕ) → search-entry-lts.Need-returns-2 (entry-calls t) (search-entry-at t) search-entry.Post
 search-entry-returns-2 t c =
     let w : Words (c .before .before .before .before .before .args .t .now) = record { small = λ k. omega (arith, c .before .before .before .before .shared-slice-known .given k) } in
     entry-raise _ _ _ _ _ (gust-small _ _ _ w) _ (omega (arith, c .known-told .given)) (sym (c .before .gust .given .1) ∙ c .before .before .before .decide .ensures)
 
--- src/search.rt:144:1
 search-entry-returns-3 : (t : ℕ) → search-entry-lts.Need-returns-3 (entry-calls t) (search-entry-at t) search-entry.Post
 search-entry-returns-3 t c =
     let m = sym (c .before .before .may-open .ensures) ∙ c .before .if1 .taken in
     let w : Words (c .before .before .before .before .before .before .before .before .args .t .now) = record { small = λ k. omega (arith, c .before .before .before .before .before .before .before .shared-slice-known .given k) } in
     entry-opened _ _ _ _ _ _ _ (gust-small _ _ _ w) (sym (c .before .before .before .before .child .given .1) ∙ c .before .before .before .before .before .before .decide .ensures) _ m (c .search-page .ensures)
 
--- src/search.rt:144:1
 search-entry-returns-4 : (t : ℕ) → search-entry-lts.Need-returns-4 (entry-calls t) (search-entry-at t) search-entry.Post
 search-entry-returns-4 t c =
     let m = sym (c .before .before .may-open .ensures) ∙ c .before .if1 .left in
@@ -163,23 +146,18 @@ search-page-Inv-loop t p level q best opened entries found₀ i₀ found i =
 abbrev search-page-μ-loop : search-page-lts.MeasureT-loop
 search-page-μ-loop t p level q best opened entries found₀ i₀ found i = entries - i
 
--- src/search.rt:129:19
 search-page-search-leaf-requires : (t : ℕ) → search-page-lts.Need-search-leaf-requires (page-calls t) (search-page-at t) search-page.Post search-page-Inv-loop search-page-μ-loop
 search-page-search-leaf-requires t c κs = c .before .before .pre .1 .0
 
--- src/search.rt:128:9
 search-page-returns : (t : ℕ) → search-page-lts.Need-returns (page-calls t) (search-page-at t) search-page.Post search-page-Inv-loop search-page-μ-loop
 search-page-returns t c = leaf-page _ _ _ _ _ _ _ (c .before .if1 .taken) (c .search-leaf .ensures)
 
--- src/search.rt:133:19
 search-page-count-requires : (t : ℕ) → search-page-lts.Need-count-requires (page-calls t) (search-page-at t) search-page.Post search-page-Inv-loop search-page-μ-loop
 search-page-count-requires t c κs = c .before .before .pre .1 .0 .here
 
--- src/search.rt:133:19
 search-page-cast-entries : (t : ℕ) → search-page-lts.Need-cast-entries (page-calls t) (search-page-at t) search-page.Post search-page-Inv-loop search-page-μ-loop
 search-page-cast-entries t c = search needs
 
--- src/search.rt:136:5
 search-page-loop-holds : (t : ℕ) → search-page-lts.Need-loop-holds (page-calls t) (search-page-at t) search-page.Post search-page-Inv-loop search-page-μ-loop
 search-page-loop-holds t c =
     let h = c .before .before .before .pre .1 in
@@ -187,29 +165,24 @@ search-page-loop-holds t c =
     let n = c .before .if1 .left in
     (h .0, omega arith, c .count .ensures, index-start _ _ _ _ _ _ o n (h .0 .low))
 
--- src/search.rt:137:9
 search-page-search-entry-requires : (t : ℕ) → search-page-lts.Need-search-entry-requires (page-calls t) (search-page-at t) search-page.Post search-page-Inv-loop search-page-μ-loop
 search-page-search-entry-requires t c κs =
     let v = c .before .loop .inv in
     let h = v .0 in
     (omega (arith, c .before .before .before .before .before .pre .0), (record { fits = h .fits; here = h .here; place = omega (arith, h .few, v .2, c .loop-test .taken); sieve = h .sieve }, v .1))
 
--- src/search.rt:138:9
 search-page-add-i : (t : ℕ) → search-page-lts.Need-add-i (page-calls t) (search-page-at t) search-page.Post search-page-Inv-loop search-page-μ-loop
 search-page-add-i t c = search needs
 
--- src/search.rt:136:5
 search-page-loop-less : (t : ℕ) → search-page-lts.Need-loop-less (page-calls t) (search-page-at t) search-page.Post search-page-Inv-loop search-page-μ-loop
 search-page-loop-less t c = search needs
 
--- src/search.rt:136:5
 search-page-loop-again : (t : ℕ) → search-page-lts.Need-loop-again (page-calls t) (search-page-at t) search-page.Post search-page-Inv-loop search-page-μ-loop
 search-page-loop-again t c =
     let v = c .before .before .loop .inv in
     let next = in-use-next _ _ (v .0 .here) (c .before .before .loop .i) (omega (arith, v .2, c .before .loop-test .taken)) (v .0 .few) in
     (v .0, v .1, v .2, order-turn _ _ _ _ _ _ _ next (v .3) (c .search-entry .ensures))
 
--- src/search.rt:123:1
 search-page-returns-2 : (t : ℕ) → search-page-lts.Need-returns-2 (page-calls t) (search-page-at t) search-page.Post search-page-Inv-loop search-page-μ-loop
 search-page-returns-2 t c =
     let v = c .before .loop .inv in

@@ -1,3 +1,4 @@
+-- `asking::search::raise` meets its contract.
 use Rattle.asking.specs.Turns.{raise-up, raise-not}
 use Prim.Native.Nat.{_+_}
 use mathlib.Core.Path.{ap}
@@ -5,32 +6,22 @@ use native.Mathlib.Omega.{arith}
 use borrow.Author.Needs.{needs}
 use Rattle.asking.proofs.search.raise.Statement.{statement}
 use Rattle.asking.proofs.search.raise.Tie as tie
-use Rattle.asking.proofs.search.raise.Reads as reads
-use Rattle.asking.proofs.search.raise.Lts as lts
-use Rattle.pages.proofs.entry_gust.Reads as entry-gust-reads
-use Rattle.sieve.proofs.place_touches.Reads as place-touches-reads
 
--- src/search.rt:84:16
 entry-gust-requires : tie.Need-entry-gust-requires
 entry-gust-requires c κs = search needs
 
--- src/search.rt:84:16
 cast-gust : tie.Need-cast-gust
 cast-gust c = search needs
 
--- src/search.rt:84:16
 add-gust : tie.Need-add-gust
 add-gust c = search needs
 
--- src/search.rt:85:8
 place-touches-requires : tie.Need-place-touches-requires
 place-touches-requires c κs = search needs
 
--- src/search.rt:80:1
 returns : tie.Need-returns
 returns c = raise-up _ _ _ _ _ (c .before .place-touches .ensures) (ap (λ n. n + 1) (c .before .before .entry-gust .ensures)) (omega (arith, c .before .before .entry-gust .ok)) (c .if1 .taken)
 
--- src/search.rt:80:1
 returns-2 : tie.Need-returns-2
 returns-2 c = raise-not _ _ _ _ _ (c .before .place-touches .ensures) (ap (λ n. n + 1) (c .before .before .entry-gust .ensures)) (c .before .before .before .before .pre .3) (c .if1 .left)
 

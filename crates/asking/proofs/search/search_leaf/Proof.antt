@@ -1,3 +1,4 @@
+-- `asking::search::search_leaf` meets its contract.
 use Rattle.asking.specs.Turns.{in-use-next, in-use-none, leaf-turn, leaf-end}
 use Rattle.asking.specs.Seen.{OpenedPage, raisedBy, mostBest}
 use Rattle.wellformed.specs.WellFormed.{page}
@@ -11,10 +12,6 @@ use Prim.Native.Nat.{_≤_, _-_}
 use native.Mathlib.Omega.{arith}
 use Rattle.asking.proofs.search.search_leaf.Statement.{statement}
 use Rattle.asking.proofs.search.search_leaf.Tie as tie
-use Rattle.asking.proofs.search.search_leaf.Reads as reads
-use Rattle.asking.proofs.search.search_leaf.Lts as lts
-use Rattle.asking.proofs.search.raise.Reads as raise-reads
-use Rattle.pages.proofs.count.Reads as count-reads
 
 abbrev Inv-loop : tie.InvT-loop
 Inv-loop t p q best entries most₀ i₀ most i =
@@ -26,31 +23,24 @@ Inv-loop t p q best entries most₀ i₀ most i =
 abbrev μ-loop : tie.MeasureT-loop
 μ-loop t p q best entries most₀ i₀ most i = entries - i
 
--- src/search.rt:97:19
 count-requires : tie.Need-count-requires Inv-loop μ-loop
 count-requires c κs = c .before .pre .here
 
--- src/search.rt:97:19
 cast-entries : tie.Need-cast-entries Inv-loop μ-loop
 cast-entries c = search needs
 
--- src/search.rt:100:5
 loop-holds : tie.Need-loop-holds Inv-loop μ-loop
 loop-holds c = (c .before .before .pre, c .count .ensures, c .before .before .pre .low, refl)
 
--- src/search.rt:101:9
 raise-requires : tie.Need-raise-requires Inv-loop μ-loop
 raise-requires c κs = let h = c .before .loop .inv .0 in (h .here, omega (arith, h .few, c .loop-test .taken, c .before .loop .inv .1), h .sieve, c .before .loop .inv .2)
 
--- src/search.rt:102:9
 add-i : tie.Need-add-i Inv-loop μ-loop
 add-i c = search needs
 
--- src/search.rt:100:5
 loop-less : tie.Need-loop-less Inv-loop μ-loop
 loop-less c = search needs
 
--- src/search.rt:100:5
 loop-again : tie.Need-loop-again Inv-loop μ-loop
 loop-again c =
     let h = c .before .before .loop .inv .0 in
@@ -58,7 +48,6 @@ loop-again c =
     let next = in-use-next _ _ (h .here) (c .before .before .loop .i) (omega (arith, n, c .before .loop-test .taken)) (h .few) in
     (h, n, c .raise .ensures .low, leaf-turn _ _ _ _ _ _ _ next (c .before .before .loop .inv .3) (c .raise .ensures .same))
 
--- src/search.rt:93:1
 returns : tie.Need-returns Inv-loop μ-loop
 returns c =
     let h = c .before .loop .inv .0 in

@@ -1,0 +1,93 @@
+-- The record from the root: it never starts again, and however the root goes on, the tree has grown by the record.
+use mathlib.Core.Bool.{Bool, true, false, true≢false}
+use mathlib.Core.List.{List, [], _∷_}
+use mathlib.Core.Path.{_≡_, refl, sym, ap, _∙_, subst}
+use Prim.Native.Nat.{ℕ, zero, suc, _+_, _≤_}
+use native.Mathlib.Numerals.{add-one}
+use native.Mathlib.Omega.{arith}
+use lib.ListN.{length, set}
+use Rattle.pages.specs.Free.{freeCount, lowestFree}
+use Rattle.pages.specs.FreeLaws.{lowest-at, lowest-found}
+use Rattle.pages.specs.Summary.{inUse}
+use Rattle.pages.specs.declared.FreePage.{FreePage}
+use Rattle.pages.specs.declared.Page.{Page}
+use Rattle.split.specs.Split.{pageFrom}
+use Rattle.split.specs.SplitLaws.{Each}
+use Rattle.wellformed.specs.WellFormed.{page}
+use Rattle.recording.specs.CameLaws.{Came, Before}
+use Rattle.recording.specs.EmptyRoot.{empty-walk, empty-root}
+use Rattle.recording.specs.Recording.{Became, Became.stands, Became.split, Became.emptied, Became.again as startAgain, Walked, Rooted, newRootAt, putRootRight, walkDown, startAgainBy, plusStruck, fromRoot}
+use Rattle.recording.specs.RootLaws.{Grown, alone, stands-grown, split-root}
+use Rattle.recording.specs.Scan.{Sought}
+use Rattle.recording.specs.SettleLaws.{handle, Handles}
+use Rattle.recording.specs.Strike.{rest}
+use Rattle.recording.specs.Tree.{Sound, level-of}
+use Rattle.recording.specs.WalkLaws.{walk-law}
+
+-- what has grown, with no more levels than one more
+pub record GrownTo (n v : ℕ) (ps : List Page) (r : ℕ) (s : Sought) (w : Walked) (t : Rooted) : Type 0 where
+  pub levels : ℕ
+  pub most : levels ≤ suc n
+  pub grown : Grown n v ps r (s .box) (w .struck) (w .sought) (t .pages) (t .root) levels
+
+-- Whether the record would start again at the root: rule 2's second half.
+abbrev pub startsAgain : Became → Bool
+startsAgain stands = false
+startsAgain (split q) = false
+startsAgain emptied = false
+startsAgain startAgain = true
+
+stops : (o : Became) (f : Walked → Walked) (w : Walked) → startsAgain o ≡ false → startAgainBy o f w ≡ w
+stops stands f w e = refl
+stops (split q) f w e = refl
+stops emptied f w e = refl
+stops startAgain f w e = absurd (true≢false e)
+
+pub from-root-stops : (fuel n v : ℕ) (ps : List Page) (r : ℕ) (s : Sought) → startsAgain (walkDown n v ps r s .became) ≡ false → fromRoot fuel n v ps r s ≡ walkDown n v ps r s
+unfolding fromRoot
+from-root-stops zero n v ps r s e = refl
+from-root-stops (suc fuel) n v ps r s e =
+    stops (walkDown n v ps r s .became) (λ x. plusStruck (x .struck) (fromRoot fuel n v (x .pages) r (x .sought))) (walkDown n v ps r s) e
+
+module _ (n v : ℕ) (ps : List Page) (r : ℕ) (s : Sought) (h : Before n v ps r s) (room : suc (suc n) ≤ freeCount ps) where
+  w : Walked
+  w = walkDown n v ps r s
+
+  module _ (c : Came n v ps r (inUse (page ps r)) s 0 w) where
+    new-root : (q : ℕ) → c .handles ≡ handle (w .pages) r ∷ handle (w .pages) q ∷ [] → GrownTo n v ps r s w (newRootAt (lowestFree (w .pages)) (w .pages) r q)
+    new-root q e =
+        let f = lowest-found (w .pages) (let a = c .moved .spent in omega arith) in
+        let g = split-root n v ps r s w c q e (f .0) (lowest-at (w .pages) (f .0) (f .1)) (h .apart) in
+        let snd : Each (Sound (w .pages) (suc n)) (handle (w .pages) r ∷ handle (w .pages) q ∷ []) = subst (Each (Sound (w .pages) (suc n))) e (c .sound) in
+        let l : page (w .pages) r .level + 1 ≡ suc (suc n) = add-one (page (w .pages) r .level) ∙ ap suc (level-of (w .pages) n r (Sound (w .pages) n) (alone (w .pages) n r (snd .0) .tree)) in
+        let at : (m : ℕ) → m ≡ suc (suc n) → GrownTo n v ps r s w (record { pages = set (w .pages) (f .0) (pageFrom m (handle (w .pages) r ∷ handle (w .pages) q ∷ [])); root = f .0 }) =
+        λ m d. record {
+          levels = suc n;
+          most = omega arith;
+          grown = subst (λ (k : ℕ). Grown n v ps r (s .box) (w .struck) (w .sought) (set (w .pages) (f .0) (pageFrom k (handle (w .pages) r ∷ handle (w .pages) q ∷ []))) (f .0) (suc n)) (sym d) g;
+        } in
+        subst (λ (x : FreePage). GrownTo n v ps r s w (newRootAt x (w .pages) r q)) (sym (f .1)) (at (page (w .pages) r .level + 1) l)
+
+    by-became : (o : Became) → Handles (w .pages) r o (c .handles) → (startsAgain o ≡ false) × GrownTo n v ps r s w (putRootRight o (w .pages) r v (w .sought))
+    by-became stands e = (refl, record { levels = n; most = omega arith; grown = stands-grown n v ps r s w c e })
+    by-became (split q) e = (refl, new-root q e)
+    by-became emptied e = absurd e
+    by-became startAgain e = absurd e
+
+  by-length : (k : ℕ) → length (rest (s .box) v (inUse (page ps r))) ≡ k → (startsAgain (w .became) ≡ false) × GrownTo n v ps r s w (putRootRight (w .became) (w .pages) r v (w .sought))
+  unfolding w
+  by-length (suc k) e = let c = walk-law n v ps r s h (omega arith) in by-became c (w .became) (c .shape)
+  by-length zero e =
+      subst (λ (x : Walked). (startsAgain (x .became) ≡ false) × GrownTo n v ps r s x (putRootRight (x .became) (x .pages) r v (x .sought))) (sym (empty-walk n v ps r s e))
+      (refl, record { levels = 0; most = omega arith; grown = empty-root n v ps r s h e (page ps r .level) })
+
+  -- rule 2's second half never happens
+  pub never-again : startsAgain (walkDown n v ps r s .became) ≡ false
+  unfolding w
+  never-again = by-length (length (rest (s .box) v (inUse (page ps r)))) refl .0
+
+  pub root-law : (fuel : ℕ) → GrownTo n v ps r s (fromRoot fuel n v ps r s) (putRootRight (fromRoot fuel n v ps r s .became) (fromRoot fuel n v ps r s .pages) r v (fromRoot fuel n v ps r s .sought))
+  unfolding w
+  root-law fuel =
+      subst (λ (x : Walked). GrownTo n v ps r s x (putRootRight (x .became) (x .pages) r v (x .sought))) (sym (from-root-stops fuel n v ps r s never-again))
+      (by-length (length (rest (s .box) v (inUse (page ps r)))) refl .1)

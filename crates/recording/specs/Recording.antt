@@ -1,0 +1,211 @@
+-- Document 01, "Recording": the walk, from the root down and back, and what is done at the root.
+-- A page with n levels under it is a leaf if n is 0. Each step loads a page, decides, stores, goes down one level, and comes back to load it again.
+use Prim.Native.Nat.{ℕ, zero, suc, _+_, _-_}
+use mathlib.Core.Bool.{Bool, true, false, _&&_, cond}
+use mathlib.Core.List.{List, [], _∷_, _++_}
+use lib.Dec.{leb, ltb, eqb}
+use lib.ListN.{length, getD, set, take, drop}
+use Rattle.ground.specs.Boxes.{join, size}
+use Rattle.ground.specs.declared.boxes.Box.{Box}
+use Rattle.pages.specs.Layout.{pageEntries, zeroBox, zeroEntry, freePage}
+use Rattle.pages.specs.Free.{lowestFree}
+use Rattle.pages.specs.Summary.{inUse, summaryOf}
+use Rattle.pages.specs.declared.Entry.{Entry}
+use Rattle.pages.specs.declared.FreePage.{FreePage}
+use Rattle.pages.specs.declared.FreePage.the-variants.{At, NoPage}
+use Rattle.pages.specs.declared.Page.{Page}
+use Rattle.pages.specs.declared.Small.{Small}
+use Rattle.split.specs.Split.{lessOrTie, halves, pageFrom}
+use Rattle.wellformed.specs.WellFormed.{page}
+use Rattle.recording.specs.Strike.{rest, strike}
+use Rattle.recording.specs.Scan.{Sought, handedIn, scan}
+
+-- Rule 4: the entry whose box grows least in size to cover b; ties: smaller size, then lower place. Which of the places 0 to n:
+unfoldable pub growth : Box → Entry → ℕ
+growth b e = size (join (e .place) b) - size (e .place)
+
+unfoldable pub goesBefore : Box → Entry → Entry → Bool
+goesBefore b e f = lessOrTie (growth b e) (growth b f) (ltb (size (e .place)) (size (f .place)))
+
+unfoldable pub leastGrown : Box → List Entry → ℕ → ℕ
+leastGrown b es zero = 0
+leastGrown b es (suc n) = let m = leastGrown b es n in cond (goesBefore b (getD es (suc n) zeroEntry) (getD es m zeroEntry)) (suc n) m
+
+unfoldable pub choose : Box → List Entry → ℕ
+choose b es = leastGrown b es (length es - 1)
+
+-- At a leaf, append b with v.
+abbrev pub leafEntry : Box → ℕ → Entry
+leafEntry b v = record { place = b; gust = v; weakest = 0; child = 0; strongest = zeroBox; union = zeroBox }
+
+-- What became of a page: it stands; it was split, and this page took the second group; it was left with no entry (rule 2); or the record starts again at the root (rule 2).
+pub data Became : Type 0 where
+  stands : Became
+  split : ℕ → Became
+  emptied : Became
+  again : Became
+
+-- What a page's walk hands back: the pages, what became of its page, what was recorded, and how many leaf records were struck.
+pub record Walked : Type 0 where
+  pub pages : List Page
+  pub became : Became
+  pub sought : Sought
+  pub struck : ℕ
+
+-- A walk goes from the pages, a page's number and what is sought. A later step at a page has besides its level, the entries that stand, and the records struck so far.
+abbrev pub Walk : Type 0
+Walk = List Page → ℕ → Sought → Walked
+
+abbrev pub Next : Type 0
+Next = List Page → ℕ → ℕ → List Entry → Sought → ℕ → Walked
+
+-- Nine entries make a split: the first group stays in the page, the second takes the lowest free page. (Refusal 6 sees to it that there is one.)
+abbrev pub intoPage : FreePage → List Page → ℕ → List Entry → Sought → ℕ → Walked
+intoPage (At q) ps level es s k = record { pages = set ps q (pageFrom level es); became = split q; sought = s; struck = k }
+intoPage NoPage ps level es s k = record { pages = ps; became = stands; sought = s; struck = k }
+
+unfoldable pub splitPage : Next
+splitPage ps p level es s k =
+    let h = halves es in
+    let qs = set ps p (pageFrom level (h .first)) in
+    intoPage (lowestFree qs) qs level (h .second) s k
+
+abbrev pub store : List Page → ℕ → ℕ → List Entry → Became → Sought → ℕ → Walked
+store ps p level es o s k = record { pages = set ps p (pageFrom level es); became = o; sought = s; struck = k }
+
+abbrev pub settleBy : Bool → Next
+settleBy true ps p level es s k = store ps p level es stands s k
+settleBy false ps p level es s k = splitPage ps p level es s k
+
+unfoldable pub settle : Next
+settle ps p level es s k = settleBy (leb (length es) pageEntries) ps p level es s k
+
+-- Coming back to page p from the child at place i: its entry is made exact, before the page is split.
+unfoldable pub exactAt : List Page → List Entry → ℕ → List Entry
+exactAt ps es i = let c = getD es i zeroEntry .child in set es i (summaryOf c (page ps c))
+
+abbrev pub without : ℕ → List Entry → List Entry
+without i es = take i es ++ drop (suc i) es
+
+-- A child that was split has its second group appended. A child left with no entry is freed and its entry taken away (rule 2), and the record starts again at the root.
+abbrev pub comeBackBy : Became → List Page → ℕ → ℕ → List Entry → ℕ → Sought → ℕ → Walked
+comeBackBy stands ps p level es i s k = settle ps p level (exactAt ps es i) s k
+comeBackBy (split q) ps p level es i s k = settle ps p level (exactAt ps es i ++ (summaryOf q (page ps q) ∷ [])) s k
+comeBackBy emptied ps p level es i s k = store (set ps (getD es i zeroEntry .child) freePage) p level (without i es) again s k
+comeBackBy again ps p level es i s k = store ps p level (exactAt ps es i) again s k
+
+unfoldable pub comeBack : ℕ → ℕ → ℕ → Walked → Walked
+comeBack p i k w = let x = page (w .pages) p in comeBackBy (w .became) (w .pages) p (x .level) (inUse x) i (w .sought) (k + w .struck)
+
+-- Rule 4, with b as cut: at a leaf append b with v; at an index page store it and go down to the chosen child, by the walk one level lower.
+unfoldable pub append : ℕ → Next
+append v ps p level es s k = settle ps p level (es ++ (leafEntry (s .box) v ∷ [])) s k
+
+unfoldable pub goDown : Walk → Next
+goDown lower ps p level es s k =
+    let i = choose (s .box) es in
+    comeBack p i k (lower (set ps p (pageFrom level es)) (getD es i zeroEntry .child) s)
+
+-- Covered ends the walk; the strikes stand.
+abbrev pub unlessCovered : Bool → Next → Next
+unlessCovered true next ps p level es s k = store ps p level es stands s k
+unlessCovered false next ps p level es s k = next ps p level es s k
+
+-- Rule 2: a page left with no entry. Otherwise rules 3 and 4.
+unfoldable pub goOn : ℕ → ℕ → Next → Next
+goOn n v next ps p level [] s k = store ps p level [] emptied s k
+goOn n v next ps p level (e ∷ es) s k = let t = scan n v (e ∷ es) s in unlessCovered (t .isCovered) next ps p level (e ∷ es) t k
+
+-- The walk at page p: rule 1, then as above.
+unfoldable pub atPage : ℕ → ℕ → Next → Walk
+atPage n v next ps p s =
+    let x = page ps p in
+    let t = strike n (s .box) v ps (inUse x) in
+    goOn n v next (t .pages) p (x .level) (rest (s .box) v (inUse x)) s (t .records)
+
+unfoldable pub walkDown : ℕ → ℕ → Walk
+walkDown zero v ps p s = atPage zero v (append v) ps p s
+walkDown (suc n) v ps p s = atPage (suc n) v (goDown (walkDown n v)) ps p s
+
+-- Rule 2 at the root r: an index root left with no entry becomes, in its place, an empty leaf root of height 1; a leaf root may stand empty. Nothing there is a candidate, so b is appended.
+abbrev pub inEmptyRoot : List Page → ℕ → ℕ → Sought → List Page
+inEmptyRoot ps r v s = set ps r (pageFrom 1 (leafEntry (s .box) v ∷ []))
+
+-- Rule 2: the record starts again at the root, with b as already cut; at most `fuel` times, since each time a page was freed.
+abbrev pub startAgainBy : Became → (Walked → Walked) → Walked → Walked
+startAgainBy stands onward w = w
+startAgainBy (split q) onward w = w
+startAgainBy emptied onward w = w
+startAgainBy again onward w = onward w
+
+abbrev pub plusStruck : ℕ → Walked → Walked
+plusStruck k w = record { pages = w .pages; became = w .became; sought = w .sought; struck = k + w .struck }
+
+unfoldable pub fromRoot : ℕ → ℕ → ℕ → Walk
+fromRoot zero n v ps r s = walkDown n v ps r s
+fromRoot (suc fuel) n v ps r s =
+    let w = walkDown n v ps r s in
+    startAgainBy (w .became) (λ x. plusStruck (x .struck) (fromRoot fuel n v (x .pages) r (x .sought))) w
+
+-- The pages and the root.
+pub record Rooted : Type 0 where
+  pub pages : List Page
+  pub root : ℕ
+
+-- A split root gets a new root in the lowest free page, with the old page's entry first.
+abbrev pub newRootAt : FreePage → List Page → ℕ → ℕ → Rooted
+newRootAt (At t) ps r q = record { pages = set ps t (pageFrom (page ps r .level + 1) (summaryOf r (page ps r) ∷ summaryOf q (page ps q) ∷ [])); root = t }
+newRootAt NoPage ps r q = record { pages = ps; root = r }
+
+abbrev pub putRootRight : Became → List Page → ℕ → ℕ → Sought → Rooted
+putRootRight stands ps r v s = record { pages = ps; root = r }
+putRootRight (split q) ps r v s = newRootAt (lowestFree ps) ps r q
+putRootRight emptied ps r v s = record { pages = inEmptyRoot ps r v s; root = r }
+putRootRight again ps r v s = record { pages = ps; root = r }
+
+-- Last, while the root is an index page with one entry, its child becomes the root and the old root is freed; at most n times.
+abbrev pub oneEntry : Page → Bool
+oneEntry x = leb 2 (x .level) && eqb (x .count) 1
+
+abbrev pub collapseBy : Bool → (List Page → ℕ → Rooted) → List Page → ℕ → Rooted
+collapseBy true onward ps r = onward (set ps r freePage) (getD (page ps r .entries) 0 zeroEntry .child)
+collapseBy false onward ps r = record { pages = ps; root = r }
+
+unfoldable pub collapse : ℕ → List Page → ℕ → Rooted
+collapse zero ps r = record { pages = ps; root = r }
+collapse (suc n) ps r = collapseBy (oneEntry (page ps r)) (collapse n) ps r
+
+-- The answer is Kept, Cut (kept after a cut) or Covered, with the struck count.
+pub data Outcome : Type 0 where
+  Kept Cut Covered : Outcome
+
+abbrev pub outcomeOf : Sought → Outcome
+outcomeOf s = cond (s .isCovered) Covered (cond (s .isCut) Cut Kept)
+
+pub record Answer : Type 0 where
+  pub outcome : Outcome
+  pub struck : ℕ
+
+pub record Recorded : Type 0 where
+  pub answer : Answer
+  pub pages : List Page
+  pub small : Small
+
+-- Accepted rises by one, struck by the count, covered by one for Covered. The height is the root page's level.
+abbrev pub smallAfter : Small → Walked → Rooted → Small
+smallAfter s w r =
+    record {
+      root = r .root;
+      height = page (r .pages) (r .root) .level;
+      accepted = s .accepted + 1;
+      struck = s .struck + w .struck;
+      covered = s .covered + cond (w .sought .isCovered) 1 0;
+    }
+
+-- Recording box b with gust v on a sound book.
+unfoldable pub recorded : List Page → Small → Box → ℕ → Recorded
+recorded ps s b v =
+    let w = fromRoot (length ps) (s .height - 1) v ps (s .root) (handedIn b) in
+    let t = putRootRight (w .became) (w .pages) (s .root) v (w .sought) in
+    let r = collapse (s .height) (t .pages) (t .root) in
+    record { answer = record { outcome = outcomeOf (w .sought); struck = w .struck }; pages = r .pages; small = smallAfter s w r }
