@@ -183,3 +183,90 @@ fn the_deepest_question_fits_a_small_stack() {
         .expect("it ends");
     assert_eq!(answer, Ok((Some(7), 4_096)));
 }
+
+const LEVEL: usize = 0;
+const COUNT: usize = 1;
+const ENTRIES: usize = 2;
+const CHILD: usize = 8;
+
+/// The first page that passes a test.
+fn find(table: &[u16], test: impl Fn(usize, &[u16]) -> bool) -> usize {
+    let mut pages = table.chunks(PAGE_WORDS).enumerate();
+    pages
+        .find(|(p, page)| test(*p, page))
+        .expect("the book has such a page")
+        .0
+}
+
+/// Every kind of damage that the rules name, done to a good book of three levels or more.
+fn damages(table: &[u16], small: &SmallRecord) -> Vec<(&'static str, Vec<u16>, SmallRecord)> {
+    let root = small.root as usize;
+    let leaf = find(table, |p, page| {
+        p != root && page[LEVEL] == 1 && page[COUNT] < 8
+    });
+    let index = find(table, |p, page| p != root && page[LEVEL] == 2);
+    let free = find(table, |_, page| page[LEVEL] == 0);
+    let at = |p: usize, k: usize| p * PAGE_WORDS + k;
+    let child = at(root, ENTRIES + CHILD);
+    let mut kinds = Vec::new();
+    let mut add = |name, change: &dyn Fn(&mut Vec<u16>, &mut SmallRecord)| {
+        let (mut t, mut s) = (table.to_vec(), *small);
+        change(&mut t, &mut s);
+        kinds.push((name, t, s));
+    };
+    add("a child outside the table", &|t, _| t[child] = 60_000);
+    add("two parents", &|t, _| t[child] = t[child + 21]);
+    add("a cycle", &|t, _| t[child] = root as u16);
+    add("a stray page", &|t, _| {
+        let copy = t[at(leaf, 0)..at(leaf, PAGE_WORDS)].to_vec();
+        t[at(free, 0)..at(free, PAGE_WORDS)].copy_from_slice(&copy);
+    });
+    add("a free page with a word set", &|t, _| t[at(free, 100)] = 1);
+    add("an unused word set", &|t, _| {
+        t[at(leaf, PAGE_WORDS - 1)] = 1
+    });
+    add("a summary off by one", &|t, _| {
+        t[at(index, ENTRIES + 6)] += 1
+    });
+    add("a child not one level lower", &|t, _| {
+        t[at(index, LEVEL)] = 3
+    });
+    add("an index root of one entry", &|t, _| {
+        t[at(root, COUNT)] = 1;
+        t[at(root, ENTRIES + 21)..at(root, PAGE_WORDS)].fill(0);
+    });
+    add("an empty page below the root", &|t, _| {
+        t[at(leaf, COUNT)..at(leaf, PAGE_WORDS)].fill(0);
+    });
+    add("a count of 9", &|t, _| t[at(leaf, COUNT)] = 9);
+    add("a gust above the limit", &|t, _| {
+        t[at(leaf, ENTRIES + 6)] = 1_201
+    });
+    add("height 0", &|_, s| s.height = 0);
+    add("a root outside the table", &|_, s| s.root = 70_000);
+    add("accepted above 1,000,000", &|_, s| {
+        (s.accepted, s.covered) = (1_000_001, 1_000_001 - s.accepted + s.covered)
+    });
+    add("held, struck and covered not accepted", &|_, s| {
+        s.struck += 1
+    });
+    kinds
+}
+
+#[test]
+fn every_named_damage_is_found_and_answered_alike() {
+    let mut seed = Seed(5);
+    let (table, small) = book(120, 500, &SPARSE, &mut seed);
+    assert!(small.height >= 3);
+    assert!(proved::check(&table, &small).is_some());
+    for (name, table, small) in damages(&table, &small) {
+        assert_eq!(verdicts(&table, &small), (None, None), "{name}");
+        for _ in 0..300 {
+            let q = question(
+                [1, 1_000, 100_000, 999_000][seed.below(4) as usize],
+                &mut seed,
+            );
+            both_asked(&table, &small, q, name);
+        }
+    }
+}
