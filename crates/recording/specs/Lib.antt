@@ -34,3 +34,4 @@ pub mod ReachLaws
 pub mod WordFacts
 pub mod FromWellFormed
 pub mod ToWellFormed
+pub mod AnswersKept

@@ -12,11 +12,7 @@ use Rattle.pages.specs.declared.Entry.{Entry}
 use Rattle.split.specs.SplitLaws.{weigh, Each, weigh-append, weigh-count, each-append, each-first, each-second}
 use Rattle.recording.specs.Strike.{consIf, select}
 use Rattle.recording.specs.Recording.{without}
-
--- The greatest of f over a list, 0 for none.
-unfoldable pub bestOf : (Entry → ℕ) → List Entry → ℕ
-bestOf f [] = 0
-bestOf f (e ∷ es) = max (f e) (bestOf f es)
+unfoldable pub use Rattle.asking.specs.BoxMax.{greatest as bestOf}
 
 pub best-append : (f : Entry → ℕ) (xs ys : List Entry) → bestOf f (xs ++ ys) ≡ max (bestOf f xs) (bestOf f ys)
 unfolding bestOf

@@ -19,12 +19,10 @@ use Rattle.pages.specs.declared.Entry.{Entry}
 use Rattle.split.specs.SplitLaws.{Each}
 use Rattle.recording.specs.Scan.{Sought, met, meets, candidate, scanEntry, scan}
 use Rattle.recording.specs.Strike.{isStruck}
+unfoldable pub use Rattle.asking.specs.BoxMax.{score}
 
 abbrev pub scoreIf : Bool → ℕ → ℕ
 scoreIf t v = cond t (v + 1) 0
-
-unfoldable pub score : Box → Box → ℕ → ℕ
-score q b v = scoreIf (touches q b) v
 
 -- a greater gust and a covering box count no less
 pub score-gust : (q b : Box) (v w : ℕ) → v ≤ w → score q b v ≤ score q b w
