@@ -35,3 +35,10 @@ pub mod WordFacts
 pub mod FromWellFormed
 pub mod ToWellFormed
 pub mod AnswersKept
+pub mod Views
+pub mod TableSteps
+pub mod PageSteps
+pub mod StrikeSteps
+pub mod ScanSteps
+pub mod ChooseSteps
+pub mod SettleSteps

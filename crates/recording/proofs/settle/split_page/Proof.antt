@@ -1,0 +1,56 @@
+-- `recording::settle::split_page` meets its contract.
+use native.Mathlib.Omega.{arith}
+use Rattle.recording.specs.SettleSteps.{settled-split, settled-unsplit, free-number}
+use Rattle.recording.specs.TableSteps.{still-fits}
+use borrow.Author.Needs.{needs}
+use Rattle.recording.proofs.settle.split_page.Statement.{statement}
+use Rattle.recording.proofs.settle.split_page.Tie as tie
+
+split-requires : tie.Need-split-requires
+split-requires c κs = search needs
+
+store-requires : tie.Need-store-requires
+store-requires c κs = search needs
+
+lowest-free-requires : tie.Need-lowest-free-requires
+lowest-free-requires c κs = search needs
+
+enum-known-free : tie.Need-enum-known-free
+enum-known-free c = search needs
+
+store-requires-2 : tie.Need-store-requires-2
+store-requires-2 c κs = still-fits (c .before .before .before .before .before .before .before .before .before .before .before .before .args .t .now) (c .before .before .before .before .before .before .before .before .store .last .0) (c .before .before .before .before .before .before .before .before .before .before .before .before .pre .0) (c .before .before .before .before .before .before .before .before .store .ensures .same-length)
+
+cast-t17 : tie.Need-cast-t17
+cast-t17 c = record { fits = omega (arith, free-number (c .before .before .before .before .before .before .before .before .before .before .before .store .last .0) (c .before .before .before .before .before .free .given .0 .0) (c .before .before .before .before .before .before .before .lowest-free .result) (still-fits (c .before .before .before .before .before .before .before .before .before .before .before .before .before .before .before .args .t .now) (c .before .before .before .before .before .before .before .before .before .before .before .store .last .0) (c .before .before .before .before .before .before .before .before .before .before .before .before .before .before .before .pre .0) (c .before .before .before .before .before .before .before .before .before .before .before .store .ensures .same-length)) (c .before .before .before .before .before .before .before .lowest-free .ensures) (c .before .before .before .before .before .free .given .1)) }
+
+enum-told : tie.Need-enum-told
+enum-told c = search needs
+
+same-length : tie.Need-same-length
+same-length c = search needs
+
+returns : tie.Need-returns
+returns c = settled-split _ _ _ _ _ _ _ (c .before .before .before .before .before .before .before .before .before .before .before .before .before .split .result) (c .before .before .before .before .before .before .before .lowest-free .result) (c .before .before .before .before .before .before .before .before .before .before .before .before .before .before .before .pre .1) (c .before .before .before .before .before .before .before .before .before .before .before .before .before .before .before .pre .2) (c .before .before .before .before .before .before .before .before .before .before .before .before .before .split .ensures) (c .before .before .before .before .before .before .before .before .before .before .before .store .ensures) (c .before .before .before .before .before .before .before .lowest-free .ensures) (c .before .before .before .before .before .free .given .1) (c .before .before .store2 .ensures)
+
+same-length-2 : tie.Need-same-length-2
+same-length-2 c = search needs
+
+returns-2 : tie.Need-returns-2
+returns-2 c = settled-unsplit _ _ _ _ _ (c .before .before .before .before .before .before .before .before .split .result) (c .before .before .lowest-free .result) (c .before .before .before .before .before .before .before .before .before .before .pre .1) (c .before .before .before .before .before .before .before .before .before .before .pre .2) (c .before .before .before .before .before .before .before .before .split .ensures) (c .before .before .before .before .before .before .store .ensures) (c .before .before .lowest-free .ensures) (c .enum-told .given .1)
+
+pub split-page-spec : {M : Type 1} → statement M
+split-page-spec =
+    tie.close
+    (tie.spec
+    split-requires
+    store-requires
+    lowest-free-requires
+    enum-known-free
+    store-requires-2
+    cast-t17
+    enum-told
+    same-length
+    returns
+    same-length-2
+    returns-2)

@@ -1,0 +1,46 @@
+-- How the code's values and tables are read as those of the definitions.
+use Prim.Native.Nat.{ℕ, _+_, min}
+use mathlib.Core.List.{List}
+use mathlib.Core.Path.{_≡_}
+use lib.ListN.{length}
+use Rattle.pages.specs.Layout.{pagesOf}
+use Rattle.pages.specs.declared.Page.{Page}
+use Rattle.recording.specs.declared.Became as code-became
+use Rattle.recording.specs.declared.Became.the-variants as case
+use Rattle.recording.specs.declared.Sought as code-sought
+use Rattle.recording.specs.declared.Walked as code-walked
+use Rattle.recording.specs.Strike.{Struck}
+use Rattle.recording.specs.Scan.{Sought}
+use Rattle.recording.specs.Recording.{Became, Became.stands, Became.split, Became.emptied, Became.again, Walked}
+
+-- A table left with these pages, as long as it was.
+pub record Leaves (before after : List ℕ) (ps : List Page) : Type 0 where
+  pub same-length : length after ≡ length before
+  pub pages-are : pagesOf after ≡ ps
+
+-- The struck count stops at 1,000,000: no book that is well-formed holds more, and a spoilt one may name a page more than once.
+abbrev pub mostStruck : ℕ
+mostStruck = 1_000_000
+
+-- Pages freed, and the records among them counted from k on.
+pub record Frees (before after : List ℕ) (k r : ℕ) (s : Struck) : Type 0 where
+  pub same-length : length after ≡ length before
+  pub pages-are : pagesOf after ≡ s .pages
+  pub struck-is : r ≡ min (k + s .records) mostStruck
+
+abbrev pub soughtOf : code-sought.Sought → Sought
+soughtOf s = record { box = s .place; isCut = s .cut; isCovered = s .covered }
+
+abbrev pub becameOf : code-became.Became → Became
+becameOf case.Stands = stands
+becameOf (case.Split q) = split q
+becameOf case.Emptied = emptied
+becameOf case.Again = again
+
+-- What a page's walk leaves and hands back.
+pub record Walks (before after : List ℕ) (r : code-walked.Walked) (w : Walked) : Type 0 where
+  pub same-length : length after ≡ length before
+  pub pages-are : pagesOf after ≡ w .pages
+  pub became-is : becameOf (r .became) ≡ w .became
+  pub sought-is : soughtOf (r .sought) ≡ w .sought
+  pub struck-is : r .struck ≡ min (w .struck) mostStruck

@@ -1,0 +1,63 @@
+// Rule 4: the entry whose box grows least in size to cover the box; ties: smaller size, then lower place.
+use crate::table::used;
+use ground::Box;
+use pages::Entry;
+use pages::Page;
+ghost use mathlib.Core.Bool.{cond};
+ghost use mathlib.Core.Path.{_≡_};
+ghost use lib.ListN.{length};
+ghost use Rattle.split.specs.Split.{lessOrTie};
+ghost use lib.Dec.{ltb};
+ghost use Rattle.pages.specs.Summary.{inUse};
+ghost use Rattle.recording.specs.Recording.{choose};
+ghost use Rattle.recording.specs.ChooseSteps.{choiceOf};
+
+// A place, by how much its box grows, and its size.
+pub struct Choice {
+    pub at: u64,
+    pub growth: u64,
+    pub size: u64,
+}
+
+impl Choice {
+    fn of(b: Box, e: Entry, at: u64) -> Choice
+        ensures { λ r. ⌜ r ≡ choiceOf b e at ⌝ }
+    {
+        let size = e.place.size();
+        Choice {
+            at,
+            growth: e.place.join(b).size() - size,
+            size,
+        }
+    }
+
+    // The later one only if it goes before.
+    fn or_later(self, later: Choice) -> Choice
+        ensures { λ r. ⌜ r ≡ cond (lessOrTie (later .growth) (self .growth) (ltb (later .size) (self .size))) later self ⌝ }
+    {
+        if (later.growth < self.growth)
+            | ((later.growth == self.growth) & (later.size < self.size))
+        {
+            return later;
+        }
+        self
+    }
+}
+
+pub fn choose(b: Box, x: Page) -> usize
+    ensures { λ r. ⌜ r ≡ choose b (inUse x) ⌝ }
+{
+    let count = used(x);
+    if count == 0 {
+        return 0;
+    }
+    let first = x.entries[0];
+    let mut best = Choice::of(b, first, 0);
+    let mut i = 1;
+    while i < count {
+        let e = x.entries[i];
+        best = best.or_later(Choice::of(b, e, i as u64));
+        i += 1;
+    }
+    best.at as usize
+}

@@ -1,0 +1,88 @@
+// A page by value: its entries in use, and the rest 0.
+use crate::table::blank_page;
+use crate::table::used;
+use ground::Box;
+use pages::Entry;
+use pages::Page;
+ghost use mathlib.Core.List.{[], _∷_, _++_};
+ghost use mathlib.Core.Path.{_≡_};
+ghost use Prim.Native.Nat.{_<_, _≤_};
+ghost use lib.ListN.{length, set};
+ghost use Rattle.pages.specs.Layout.{pageEntries};
+ghost use Rattle.pages.specs.Summary.{inUse};
+ghost use Rattle.split.specs.Split.{pageFrom};
+ghost use Rattle.recording.specs.Recording.{leafEntry, without};
+ghost use Rattle.recording.specs.PageSteps.{Tidy};
+
+// The page with its unused entries 0 and its count at most eight, whatever a spoilt table held.
+pub fn tidy(x: Page) -> Page
+    ensures { λ r. ⌜ Tidy r (x .level) (inUse x) ⌝ }
+{
+    let count = used(x);
+    let mut kept = blank_page();
+    let mut i = 0;
+    while i < count {
+        let e = x.entries[i];
+        kept.entries[i] = e;
+        i += 1;
+    }
+    kept.level = x.level;
+    kept.count = count as u16;
+    kept
+}
+
+pub fn leaf_entry(b: Box, v: u16) -> Entry
+    ensures { λ r. ⌜ r ≡ leafEntry b v ⌝ }
+{
+    let mut e = crate::table::zero_entry();
+    e.place = b;
+    e.gust = v;
+    e
+}
+
+// With one more entry.
+pub fn push(x: Page, e: Entry) -> Page
+    requires { ⌜ (x ≡ pageFrom (x .level) (inUse x)) × (x .count < pageEntries) ⌝ }
+    ensures { λ r. ⌜ r ≡ pageFrom (x .level) (inUse x ++ (e ∷ [])) ⌝ }
+{
+    let mut y = x;
+    let k = x.count as usize;
+    y.entries[k] = e;
+    y.count = x.count + 1;
+    y
+}
+
+// With another entry at a place, if it has that place.
+pub fn put(x: Page, i: usize, e: Entry) -> Page
+    requires { ⌜ Tidy x (x .level) (inUse x) ⌝ }
+    ensures { λ r. ⌜ Tidy r (x .level) (set (inUse x) i e) ⌝ }
+{
+    let count = x.count as usize;
+    if count <= i {
+        return x;
+    }
+    let mut y = x;
+    y.entries[i] = e;
+    y
+}
+
+// Without the entry at a place, closed up.
+pub fn take_out(x: Page, i: usize) -> Page
+    ensures { λ r. ⌜ r ≡ pageFrom (x .level) (without i (inUse x)) ⌝ }
+{
+    let count = used(x);
+    let mut kept = blank_page();
+    let mut k = 0;
+    let mut j = 0;
+    while j < count {
+        let e = x.entries[j];
+        if j != i {
+            kept.entries[k] = e;
+            k += 1;
+        }
+        j += 1;
+    }
+    kept.level = x.level;
+    kept.count = k as u16;
+    kept
+}

@@ -1,0 +1,112 @@
+// Settling a page: it is stored, or split if it has nine entries.
+use crate::Became;
+use crate::page::push;
+use crate::page::put;
+use crate::page::take_out;
+use crate::page::tidy;
+use crate::table::load;
+use crate::table::release;
+use crate::table::store;
+use crate::table::summary;
+use crate::table::used;
+use pages::Entry;
+use pages::FreePage;
+use pages::Page;
+ghost use mathlib.Core.Bool.{true};
+ghost use mathlib.Core.List.{[], _∷_, _++_};
+ghost use mathlib.Core.Path.{_≡_};
+ghost use Prim.Native.Nat.{_≤_};
+ghost use lib.ListN.{getD};
+ghost use Rattle.pages.specs.Layout.{pageEntries, tableFits, pagesOf, zeroEntry};
+ghost use Rattle.pages.specs.Summary.{inUse};
+ghost use Rattle.wellformed.specs.WellFormed.{page};
+ghost use Rattle.recording.specs.PageSteps.{Tidy};
+ghost use Rattle.recording.specs.Recording.{exactAt};
+ghost use Rattle.recording.specs.SettleSteps.{Settles, settled, cameBack};
+ghost use Rattle.recording.specs.Views.{becameOf};
+
+fn settle(t: &mut [u16], p: usize, x: Page) -> Became
+    requires { ⌜ (tableFits (now t) ≡ true) × Tidy x (x .level) (inUse x) ⌝ }
+    ensures { λ r. ⌜ Settles (now (t .entry)) (now (t .exit)) r (settled (pagesOf (now (t .entry))) p (x .level) (inUse x)) ⌝ }
+{
+    store(t, p, x);
+    Became::Stands
+}
+
+// The first group stays in the page, the second takes the lowest free page.
+fn split_page(t: &mut [u16], p: usize, x: Page, e: Entry) -> Became
+    requires { ⌜ (tableFits (now t) ≡ true) × Tidy x (x .level) (inUse x) × (pageEntries ≤ x .count) ⌝ }
+    ensures { λ r. ⌜ Settles (now (t .entry)) (now (t .exit)) r (settled (pagesOf (now (t .entry))) p (x .level) (inUse x ++ (e ∷ []))) ⌝ }
+{
+    let halves = split::split(x, e);
+    store(t, p, halves.first);
+    let free = pages::lowest_free(t);
+    match free {
+        FreePage::At(q) => {
+            store(t, q, halves.second);
+            Became::Split(q as u16)
+        }
+        FreePage::NoPage => Became::Stands,
+    }
+}
+
+// With one entry more.
+pub fn settle_with(t: &mut [u16], p: usize, x: Page, e: Entry) -> Became
+    requires { ⌜ (tableFits (now t) ≡ true) × Tidy x (x .level) (inUse x) ⌝ }
+    ensures { λ r. ⌜ Settles (now (t .entry)) (now (t .exit)) r (settled (pagesOf (now (t .entry))) p (x .level) (inUse x ++ (e ∷ []))) ⌝ }
+{
+    if x.count < 8 {
+        store(t, p, push(x, e));
+        return Became::Stands;
+    }
+    split_page(t, p, x, e)
+}
+
+// The child at a place of a page by value; 0 if it has no such place.
+pub fn child_at(x: Page, i: usize) -> u16
+    ensures { λ r. ⌜ r ≡ getD (inUse x) i zeroEntry .child ⌝ }
+{
+    if used(x) <= i {
+        return 0;
+    }
+    let e = x.entries[i];
+    e.child
+}
+
+// Page p with its entry at place i made exact for the child as it now is.
+fn exact_page(t: &[u16], p: usize, i: usize) -> Page
+    requires { ⌜ tableFits (now t) ≡ true ⌝ }
+    ensures { λ r. ⌜ Tidy r (page (pagesOf (now (t .entry))) p .level) (exactAt (pagesOf (now (t .entry))) (inUse (page (pagesOf (now (t .entry))) p)) i) ⌝ }
+{
+    let x = tidy(load(t, p));
+    let child = child_at(x, i);
+    put(x, i, summary(t, child))
+}
+
+// Coming back to page p from the child at place i, of which this became.
+pub fn come_back(t: &mut [u16], p: usize, i: usize, child: Became) -> Became
+    requires { ⌜ tableFits (now t) ≡ true ⌝ }
+    ensures { λ r. ⌜ Settles (now (t .entry)) (now (t .exit)) r (cameBack (becameOf child) (pagesOf (now (t .entry))) p i) ⌝ }
+{
+    match child {
+        Became::Stands => {
+            let x = exact_page(t, p, i);
+            settle(t, p, x)
+        }
+        Became::Split(q) => {
+            let x = exact_page(t, p, i);
+            settle_with(t, p, x, summary(t, q))
+        }
+        Became::Emptied => {
+            let x = load(t, p);
+            release(t, child_at(x, i) as usize);
+            store(t, p, take_out(x, i));
+            Became::Again
+        }
+        Became::Again => {
+            let x = exact_page(t, p, i);
+            store(t, p, x);
+            Became::Again
+        }
+    }
+}

@@ -1,0 +1,95 @@
+// The table as the definitions read it: past the end every page is free, and what is put there is lost.
+use ground::Box;
+use ground::Range;
+use pages::Entry;
+use pages::Page;
+ghost use mathlib.Core.Bool.{true};
+ghost use mathlib.Core.List.{map};
+ghost use mathlib.Core.Path.{_≡_};
+ghost use Prim.Native.Nat.{_≤_, _<_};
+ghost use lib.ListN.{length, set};
+ghost use Rattle.pages.specs.GatherLaws.{emptySummary};
+ghost use Rattle.pages.specs.Layout.{pageEntries, tableFits, pagesOf, zeroEntry, freePage};
+ghost use Rattle.pages.specs.Summary.{inUse, summaryOf};
+ghost use Rattle.wellformed.specs.WellFormed.{page, childOf};
+ghost use Rattle.recording.specs.Views.{Leaves};
+
+pub fn zero_entry() -> Entry
+    ensures { λ r. ⌜ r ≡ zeroEntry ⌝ }
+{
+    let zero = Range { low: 0, high: 0 };
+    let none = Box {
+        east: zero,
+        north: zero,
+        day: zero,
+    };
+    Entry {
+        place: none,
+        gust: 0,
+        weakest: 0,
+        child: 0,
+        strongest: none,
+        union: none,
+    }
+}
+
+pub fn blank_page() -> Page
+    ensures { λ r. ⌜ r ≡ freePage ⌝ }
+{
+    let none = zero_entry();
+    Page {
+        level: 0,
+        count: 0,
+        entries: [none; 8],
+    }
+}
+
+pub fn load(t: &[u16], p: usize) -> Page
+    requires { ⌜ tableFits (now t) ≡ true ⌝ }
+    ensures { λ r. ⌜ r ≡ page (pagesOf (now (t .entry))) p ⌝ }
+{
+    if p < t.len() / Page::WORDS {
+        return pages::read_page(t, p);
+    }
+    blank_page()
+}
+
+pub fn store(t: &mut [u16], p: usize, x: Page)
+    requires { ⌜ tableFits (now t) ≡ true ⌝ }
+    ensures { λ r. ⌜ Leaves (now (t .entry)) (now (t .exit)) (set (pagesOf (now (t .entry))) p x) ⌝ }
+{
+    if p < t.len() / Page::WORDS {
+        pages::put_page(t, p, x);
+    }
+}
+
+pub fn release(t: &mut [u16], p: usize)
+    requires { ⌜ tableFits (now t) ≡ true ⌝ }
+    ensures { λ r. ⌜ Leaves (now (t .entry)) (now (t .exit)) (set (pagesOf (now (t .entry))) p freePage) ⌝ }
+{
+    if p < t.len() / Page::WORDS {
+        pages::free_page(t, p);
+    }
+}
+
+// The exact index entry for page p.
+pub fn summary(t: &[u16], p: u16) -> Entry
+    requires { ⌜ tableFits (now t) ≡ true ⌝ }
+    ensures { λ r. ⌜ r ≡ summaryOf p (page (pagesOf (now (t .entry))) p) ⌝ }
+{
+    let at = p as usize;
+    if at < t.len() / Page::WORDS {
+        return pages::summary_at(t, at);
+    }
+    let mut none = zero_entry();
+    none.child = p;
+    none
+}
+
+// How many entries of a page by value are in use.
+pub fn used(x: Page) -> usize
+    ensures { λ r. ⌜ (r ≡ length (inUse x)) × (r ≤ pageEntries) ⌝ }
+{
+    let n = x.count as usize;
+    if n <= Page::ENTRIES { n } else { Page::ENTRIES }
+}
