@@ -42,3 +42,8 @@ pub mod StrikeSteps
 pub mod ScanSteps
 pub mod ChooseSteps
 pub mod SettleSteps
+pub mod WalkSteps
+pub mod RootSteps
+pub mod RecordSteps
+pub mod RefusalSteps
+pub mod CallSteps

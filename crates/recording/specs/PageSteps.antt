@@ -1,20 +1,19 @@
 -- A page by value, entry by entry.
-use Prim.Native.Nat.{ℕ, zero, suc, _+_, _-_, _≤_, _<_}
-use mathlib.Core.Bool.{Bool, true, false}
+use Prim.Native.Nat.{ℕ, suc, _+_, _-_, _≤_, _<_}
 use mathlib.Core.List.{List, [], _∷_, _++_, append-assoc, append-nil}
 use mathlib.Core.Logic.{⊎-elim}
-use mathlib.Core.Path.{_≡_, refl, sym, ap, ap₂, subst, _∙_}
+use mathlib.Core.Path.{_≡_, sym, ap, ap₂, _∙_}
 use Rattle.ground.specs.Tests.{below-or-not}
 use native.Mathlib.Numerals.{add-one}
 use native.Mathlib.Omega.{arith}
-use lib.ListN.{length, getD, set, take, drop, replicate, length-append, length-take, length-set, length-drop, length-replicate, drop-of-length-le}
-use lib.Seq.{take-append-le, drop-append-le, take-suc, take-all, getD-take, set-at, set-append-left, set-out, take-at, take-take}
+use lib.ListN.{length, getD, set, take, drop, replicate, length-append, length-take, length-set, drop-of-length-le}
+use lib.Seq.{take-append-le, drop-append-le, take-suc, take-all, set-append-left, set-out}
 use Rattle.pages.specs.Layout.{pageEntries, zeroEntry}
 use Rattle.pages.specs.Summary.{inUse}
 use Rattle.pages.specs.declared.Entry.{Entry}
 use Rattle.pages.specs.declared.Page.{Page}
 use Rattle.split.specs.Split.{pageFrom}
-use Rattle.split.specs.SplitLaws.{page-from-in-use, page-from-length}
+use Rattle.split.specs.SplitLaws.{page-from-in-use}
 use Rattle.recording.specs.Recording.{without}
 use Rattle.recording.specs.StrikeSteps.{Filled, filled-none, filled-more, filled-page, used-at}
 

@@ -1,29 +1,29 @@
 -- A page settled, and a page come back to, in the code's order. What is recorded and the struck count pass through unchanged.
-use Prim.Native.Nat.{ℕ, zero, suc, _+_, _-_, _≤_, _<_}
+use Prim.Native.Nat.{ℕ, _+_, _-_, _≤_, _<_}
 use mathlib.Core.Bool.{Bool, true, false}
 use mathlib.Core.List.{List, [], _∷_, _++_, append-nil}
 use mathlib.Core.Path.{_≡_, refl, sym, ap, ap₂, subst, _∙_}
 use native.Mathlib.Omega.{arith}
 use borrow.Author.Tests.{le-leb, lt-leb}
 use lib.Dec.{leb}
-use lib.ListN.{length, getD, set, take, drop, replicate, length-append, length-take, length-set, List·getD-eq-default}
+use lib.ListN.{length, getD, set, replicate, length-append, List·getD-eq-default}
 use Rattle.pages.specs.Facts.{fitting}
 use Rattle.pages.specs.Free.{lowestFree}
-use Rattle.pages.specs.FreeLaws.{LowestFree, lowest-at}
-use Rattle.pages.specs.Layout.{pageEntries, mostPages, zeroBox, zeroEntry, freePage, pagesIn, tableFits, pagesOf}
+use Rattle.pages.specs.FreeLaws.{lowest-at}
+use Rattle.pages.specs.Layout.{pageEntries, mostPages, zeroBox, zeroEntry, freePage, tableFits, pagesOf}
 use Rattle.pages.specs.LayoutLaws.{pages-length}
 use Rattle.pages.specs.Summary.{inUse, summaryOf}
 use Rattle.pages.specs.declared.Entry.{Entry}
 use Rattle.pages.specs.declared.FreePage.{FreePage}
 use Rattle.pages.specs.declared.FreePage.the-variants.{At, NoPage}
 use Rattle.pages.specs.declared.Page.{Page}
-use Rattle.split.specs.Split.{TwoLists, halves, pageFrom, pagesFrom}
+use Rattle.split.specs.Split.{halves, pageFrom, pagesFrom}
 use Rattle.split.specs.declared.filling.Halves.{Halves}
 use Rattle.wellformed.specs.WellFormed.{page}
 use Rattle.recording.specs.declared.Became as code-became
 use Rattle.recording.specs.declared.Became.the-variants as case
 use Rattle.recording.specs.Scan.{Sought, handedIn}
-use Rattle.recording.specs.Recording.{Became, Became.stands, Became.split, Became.emptied, Became.again, Walked, intoPage, splitPage, store, settleBy, settle, exactAt, without, comeBackBy, comeBack}
+use Rattle.recording.specs.Recording.{Became, Became.stands, Became.split, Became.emptied, Became.again, Walked, intoPage, splitPage, settleBy, settle, exactAt, without, comeBackBy, comeBack}
 use Rattle.recording.specs.PageSteps.{Tidy, in-use-is, level-is, count-is}
 use Rattle.recording.specs.StrikeSteps.{used-at}
 use Rattle.recording.specs.Views.{Leaves, becameOf}

@@ -1,16 +1,18 @@
 -- The table as the definitions read it, step by step: a page loaded, stored, freed or summed up, inside the table and past its end.
-use Prim.Native.Nat.{ℕ, _+_, _≤_, _<_, min}
+use Prim.Native.Nat.{ℕ, _≤_, _<_}
 use mathlib.Core.Bool.{true}
 use mathlib.Core.List.{List}
 use mathlib.Core.Path.{_≡_, refl, sym, ap, _∙_}
+use mathlib.Core.Logic.{⊎-elim}
 use native.Mathlib.Omega.{arith}
+use Rattle.ground.specs.Tests.{below-or-not}
 use lib.ListN.{length, take, set, length-take, List·getD-eq-default}
 use lib.Seq.{set-out}
-use Rattle.pages.specs.Facts.{InTable, in-table}
+use Rattle.pages.specs.Facts.{in-table}
 use Rattle.pages.specs.GatherLaws.{emptySummary, summary-none}
-use Rattle.pages.specs.Layout.{pageEntries, pagesIn, tableFits, pageAt, putPage, pagesOf, zeroEntry, freePage}
-use Rattle.pages.specs.LayoutLaws.{put-length, put-pages, pages-at, pages-length, fits-alike}
-use Rattle.pages.specs.Summary.{inUse, summary, summaryOf}
+use Rattle.pages.specs.Layout.{pageEntries, pagesIn, tableFits, pageAt, putPage, pagesOf, freePage}
+use Rattle.pages.specs.LayoutLaws.{put-length, page-eight, put-pages, pages-at, pages-length, fits-alike}
+use Rattle.pages.specs.Summary.{inUse, summaryOf}
 use Rattle.pages.specs.declared.Entry.{Entry}
 use Rattle.pages.specs.declared.Page.{Page}
 use Rattle.wellformed.specs.WellFormed.{page}
@@ -51,3 +53,9 @@ used-all n es e h = omega (arith, length-take n es)
 
 pub used-most : (x : Page) → length (x .entries) ≡ pageEntries → length (inUse x) ≤ pageEntries
 used-most x e = omega (arith, length-take (x .count) (x .entries))
+
+-- a page that is read has eight entries
+pub loaded-eight : (t : List ℕ) (p : ℕ) (x : Page) → x ≡ page (pagesOf t) p → length (x .entries) ≡ pageEntries
+loaded-eight t p x e =
+    ap (λ (y : Page). length (y .entries)) e
+    ∙ ⊎-elim (λ (h : p < pagesIn t). ap (λ (y : Page). length (y .entries)) (pages-at t p h) ∙ page-eight t p) (λ (h : pagesIn t ≤ p). ap (λ (y : Page). length (y .entries)) (sym (load-out t p freePage h refl))) (below-or-not p (pagesIn t))

@@ -1,14 +1,22 @@
 // Recording: strike, cut, cover, place, split, and put right.
 // The walk is thin: a page is held by value only in functions that return before the next level is begun.
 
+mod call;
 mod choose;
 mod page;
+mod refusal;
+mod root;
 mod scan;
 mod settle;
+mod sound;
 mod strike;
 mod table;
+mod walk;
 
+pub use call::record;
 use ground::Box;
+use pages::Small;
+pub use sound::recorded;
 
 // What is being recorded: the box as already cut, whether it was cut, and whether a candidate covers it.
 pub struct Sought {
@@ -31,4 +39,30 @@ pub struct Walked {
     pub became: Became,
     pub sought: Sought,
     pub struck: u32,
+}
+
+// The answer: Kept, Cut (kept after a cut) or Covered.
+pub enum Outcome {
+    Kept,
+    Cut,
+    Covered,
+}
+
+// The answer with the struck count, and the small record afterwards.
+pub struct Answered {
+    pub outcome: Outcome,
+    pub struck: u32,
+    pub small: Small,
+}
+
+// A refusal's number, or the answer with the struck count.
+pub enum Reply {
+    Refused(u32),
+    Says(Outcome, u32),
+}
+
+// The reply, and the small record afterwards.
+pub struct Called {
+    pub reply: Reply,
+    pub small: Small,
 }

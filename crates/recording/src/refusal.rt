@@ -1,0 +1,44 @@
+// When the book says no to a record: 1 to 6, in that order; 0 if it does not.
+use ground::Box;
+use ground::Gust;
+use pages::Small;
+use wellformed::Checked;
+ghost use mathlib.Core.Path.{_≡_};
+ghost use Rattle.wellformed.specs.WellFormed.{wellFormed};
+ghost use Rattle.recording.specs.Record.{refusal};
+
+fn is_well_formed(t: &[u16], s: Small) -> bool
+    ensures { λ r. ⌜ r ≡ wellFormed (now (t .entry)) s ⌝ }
+{
+    let found = wellformed::check(t, s);
+    match found {
+        Checked::Held(_) => true,
+        Checked::Damaged => false,
+    }
+}
+
+pub fn refusal(t: &[u16], s: Small, b: Box, v: u16) -> u32
+    ensures { λ r. ⌜ r ≡ refusal (now (t .entry)) s b v ⌝ }
+{
+    if !pages::table_fits(t) {
+        return 1;
+    }
+    if !b.legal() {
+        return 2;
+    }
+    let gust = Gust { tenths: v };
+    if !gust.passes() {
+        return 3;
+    }
+    if !is_well_formed(t, s) {
+        return 4;
+    }
+    if s.accepted == 1000000 {
+        return 5;
+    }
+    let height = s.height as usize;
+    if !pages::free_at_least(t, height + 1) {
+        return 6;
+    }
+    0
+}

@@ -1,0 +1,173 @@
+// The root: starting again, the new root above a split one, and the collapse.
+use crate::Became;
+use crate::Sought;
+use crate::Walked;
+use crate::page::leaf_entry;
+use crate::strike::more_struck;
+use crate::table::blank_page;
+use crate::table::load;
+use crate::table::release;
+use crate::table::store;
+use crate::table::summary;
+use crate::walk::walk_down;
+use ground::Box;
+use pages::FreePage;
+use pages::Page;
+ghost use mathlib.Core.Bool.{true};
+ghost use mathlib.Core.List.{[], _∷_};
+ghost use mathlib.Core.Path.{_≡_};
+ghost use Rattle.split.specs.Split.{pageFrom};
+ghost use Prim.Native.Nat.{_+_, _<_};
+ghost use lib.ListN.{length, set};
+ghost use Rattle.pages.specs.Layout.{tableFits, pagesOf, freePage};
+ghost use Rattle.wellformed.specs.WellFormed.{page};
+ghost use Rattle.recording.specs.Recording.{leafEntry, fromRoot, newRootAt, putRootRight, oneEntry, collapse};
+ghost use Rattle.pages.specs.Free.{lowestFree};
+ghost use Rattle.recording.specs.RootSteps.{isAgain, OnceMore, Roots, RootsIf, LevelFits, Above};
+ghost use Rattle.recording.specs.Views.{Leaves, soughtOf, becameOf, Walks};
+
+fn is_again(o: Became) -> bool
+    ensures { λ r. ⌜ r ≡ isAgain (becameOf o) ⌝ }
+{
+    match o {
+        Became::Stands => false,
+        Became::Split(_) => false,
+        Became::Emptied => false,
+        Became::Again => true,
+    }
+}
+
+// One more walk, with the box as already cut.
+fn once_more(t: &mut [u16], n: usize, v: u16, root: usize, w: Walked) -> Walked
+    requires { ⌜ tableFits (now t) ≡ true ⌝ }
+    ensures { λ r. ⌜ OnceMore n v root (now (t .entry)) (now (t .exit)) w r ⌝ }
+{
+    let next = walk_down(t, n, v, root, w.sought);
+    let became = next.became;
+    let sought = next.sought;
+    Walked {
+        became,
+        sought,
+        struck: more_struck(w.struck, next.struck),
+    }
+}
+
+// Each time that the record starts again a page was freed, so as many times as there are pages suffice.
+pub fn from_root(t: &mut [u16], n: usize, v: u16, root: usize, s: Sought) -> Walked
+    requires { ⌜ tableFits (now t) ≡ true ⌝ }
+    ensures { λ r. ⌜ Walks (now (t .entry)) (now (t .exit)) r (fromRoot (length (pagesOf (now (t .entry)))) n v (pagesOf (now (t .entry))) root (soughtOf s)) ⌝ }
+{
+    let mut fuel = t.len() / Page::WORDS;
+    let mut w = walk_down(t, n, v, root, s);
+    while fuel > 0 {
+        let became = w.became;
+        if !is_again(became) {
+            return w;
+        }
+        w = once_more(t, n, v, root, w);
+        fuel -= 1;
+    }
+    w
+}
+
+fn one_entry(x: Page) -> bool
+    ensures { λ r. ⌜ r ≡ oneEntry x ⌝ }
+{
+    (2 <= x.level) & (x.count == 1)
+}
+
+fn root_page(t: &[u16], root: u16) -> Page
+    requires { ⌜ tableFits (now t) ≡ true ⌝ }
+    ensures { λ r. ⌜ r ≡ page (pagesOf (now (t .entry))) root ⌝ }
+{
+    load(t, root as usize)
+}
+
+fn free_root(t: &mut [u16], root: u16)
+    requires { ⌜ tableFits (now t) ≡ true ⌝ }
+    ensures { λ r. ⌜ Leaves (now (t .entry)) (now (t .exit)) (set (pagesOf (now (t .entry))) root freePage) ⌝ }
+{
+    release(t, root as usize);
+}
+
+// While the root is an index page with one entry, its child becomes the root; at most n times.
+pub fn collapse(t: &mut [u16], n: usize, root: u16) -> u16
+    requires { ⌜ tableFits (now t) ≡ true ⌝ }
+    ensures { λ r. ⌜ Roots (now (t .entry)) (now (t .exit)) r (collapse n (pagesOf (now (t .entry))) root) ⌝ }
+{
+    let mut left = n;
+    let mut r = root;
+    while left > 0 {
+        let x = root_page(t, r);
+        if !one_entry(x) {
+            return r;
+        }
+        free_root(t, r);
+        let e = x.entries[0];
+        r = e.child;
+        left -= 1;
+    }
+    r
+}
+
+// One level more, as far as a word goes.
+fn level_above(level: u16) -> u16
+    ensures { λ r. ⌜ (level < 65_535 → r ≡ level + 1) ⌝ }
+{
+    if level < 65535 { level + 1 } else { level }
+}
+
+// The page above a split root: the old page's entry first.
+fn above(t: &[u16], root: u16, second: u16) -> Page
+    requires { ⌜ tableFits (now t) ≡ true ⌝ }
+    ensures { λ r. ⌜ Above (pagesOf (now (t .entry))) root second r ⌝ }
+{
+    let below = load(t, root as usize);
+    let mut x = blank_page();
+    x.entries[0] = summary(t, root);
+    x.entries[1] = summary(t, second);
+    x.level = level_above(below.level);
+    x.count = 2;
+    x
+}
+
+fn new_root(t: &mut [u16], root: u16, second: u16) -> u16
+    requires { ⌜ tableFits (now t) ≡ true ⌝ }
+    ensures { λ r. ⌜ RootsIf (LevelFits (pagesOf (now (t .entry))) root) (now (t .entry)) (now (t .exit)) r (newRootAt (lowestFree (pagesOf (now (t .entry)))) (pagesOf (now (t .entry))) root second) ⌝ }
+{
+    let x = above(t, root, second);
+    let free = pages::lowest_free(t);
+    match free {
+        FreePage::At(q) => {
+            store(t, q, x);
+            q as u16
+        }
+        FreePage::NoPage => root,
+    }
+}
+
+// An empty leaf root with the record appended.
+fn only_leaf(b: Box, v: u16) -> Page
+    ensures { λ r. ⌜ r ≡ pageFrom 1 (leafEntry b v ∷ []) ⌝ }
+{
+    let mut x = blank_page();
+    x.entries[0] = leaf_entry(b, v);
+    x.level = 1;
+    x.count = 1;
+    x
+}
+
+pub fn put_root_right(t: &mut [u16], o: Became, root: u16, v: u16, s: Sought) -> u16
+    requires { ⌜ tableFits (now t) ≡ true ⌝ }
+    ensures { λ r. ⌜ RootsIf (LevelFits (pagesOf (now (t .entry))) root) (now (t .entry)) (now (t .exit)) r (putRootRight (becameOf o) (pagesOf (now (t .entry))) root v (soughtOf s)) ⌝ }
+{
+    match o {
+        Became::Stands => root,
+        Became::Split(q) => new_root(t, root, q),
+        Became::Emptied => {
+            store(t, root as usize, only_leaf(s.place, v));
+            root
+        }
+        Became::Again => root,
+    }
+}

@@ -1,0 +1,72 @@
+// Recording on a book known to be sound: the walk, the root put right, and the small record.
+use crate::Answered;
+use crate::Outcome;
+use crate::Sought;
+use crate::Walked;
+use crate::root::collapse;
+use crate::root::from_root;
+use crate::root::put_root_right;
+use crate::table::load;
+use ground::Box;
+use pages::Small;
+ghost use mathlib.Core.Bool.{true, cond};
+ghost use mathlib.Core.Path.{_≡_};
+ghost use Prim.Native.Nat.{_+_, _≤_};
+ghost use Rattle.pages.specs.Layout.{tableFits};
+ghost use Rattle.wellformed.specs.WellFormed.{mostAccepted};
+ghost use Rattle.recording.specs.Recording.{outcomeOf};
+ghost use Rattle.recording.specs.RecordSteps.{outcomeIs, SoundSmall, SmallMade, Records};
+ghost use Rattle.recording.specs.Views.{mostStruck, soughtOf};
+
+fn outcome_of(s: Sought) -> Outcome
+    ensures { λ r. ⌜ outcomeIs r ≡ outcomeOf (soughtOf s) ⌝ }
+{
+    if s.covered {
+        return Outcome::Covered;
+    }
+    if s.cut {
+        return Outcome::Cut;
+    }
+    Outcome::Kept
+}
+
+fn one_if(c: bool) -> u32
+    ensures { λ r. ⌜ (r ≡ cond c 1 0) × (r ≤ 1) ⌝ }
+{
+    if c { 1 } else { 0 }
+}
+
+// Accepted rises by one, struck by the count, covered by one for Covered; the height is the root page's level.
+fn small_after(t: &[u16], s: Small, w: Walked, root: u16) -> Small
+    requires { ⌜ (tableFits (now t) ≡ true) × (s .accepted ≤ mostAccepted) × (s .struck ≤ mostAccepted) × (s .covered ≤ mostAccepted) × (w .struck ≤ mostStruck) ⌝ }
+    ensures { λ r. ⌜ SmallMade (now (t .entry)) s w root r ⌝ }
+{
+    let top = load(t, root as usize);
+    let found = w.sought;
+    Small {
+        root: root as u32,
+        height: top.level as u32,
+        accepted: s.accepted + 1,
+        struck: s.struck + w.struck,
+        covered: s.covered + one_if(found.covered),
+    }
+}
+
+pub fn recorded(t: &mut [u16], s: Small, b: Box, v: u16) -> Answered
+    requires { ⌜ SoundSmall (now t) s ⌝ }
+    ensures { λ r. ⌜ Records (now (t .entry)) (now (t .exit)) s b v r ⌝ }
+{
+    let root = s.root as u16;
+    let height = s.height as usize;
+    let w = from_root(t, height - 1, v, root as usize, Sought::handed_in(b));
+    let became = w.became;
+    let sought = w.sought;
+    let top = put_root_right(t, became, root, v, sought);
+    let last = collapse(t, height, top);
+    let small = small_after(t, s, w, last);
+    Answered {
+        outcome: outcome_of(sought),
+        struck: w.struck,
+        small,
+    }
+}
