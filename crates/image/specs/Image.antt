@@ -8,7 +8,7 @@ use Rattle.image.specs.Bytes.{bytes16, bytes32, number, wordBytes, byteW
 use Rattle.image.specs.declared.trailer.Trailer.{Trailer}
 use Rattle.image.specs.declared.ImagePages.{ImagePages}
 use Rattle.image.specs.declared.ImagePages.the-variants.{Pages, WrongSize}
-use Rattle.pages.specs.Layout.{pagesIn}
+use Rattle.pages.specs.Layout.{mostPages, pagesIn}
 use Rattle.pages.specs.declared.Small.{Small}
 
 -- The form of the images that this book saves.
@@ -47,7 +47,7 @@ sized true pages = Pages pages
 sized false pages = WrongSize
 
 unfoldable pub imagePages : ℕ → ImagePages
-imagePages n = sized (eqb n (imageLength (n / 340)) && leb 1 (n / 340) && leb (n / 340) 4_096) (n / 340)
+imagePages n = sized (eqb n (imageLength (n / 340)) && leb 1 (n / 340) && leb (n / 340) mostPages) (n / 340)
 
 -- The table is all but the last 22 bytes.
 unfoldable pub tableOf : List ℕ → List ℕ

@@ -11,7 +11,7 @@ use lib.Seq.{take-at, drop-at}
 use Rattle.ground.specs.Tests.{three, joint-three}
 use Rattle.image.specs.Bytes.{wordBytes}
 use Rattle.image.specs.ByteLaws.{Below, below-take, below-drop, length-wordBytes, length-byteWords, byteWords-wordBytes, wordBytes-byteWords}
-use Rattle.pages.specs.Layout.{pagesIn}
+use Rattle.pages.specs.Layout.{mostPages, pagesIn}
 use Rattle.image.specs.Image.{imageLength, imageOf, imagePages, pagesBack, sized, smallOf, tableOf, trailerBytes, trailerFor, trailerGood, trailerIn, trailerOf}
 use Rattle.image.specs.TrailerLaws.{Fitting, good, good-so, length-trailerBytes, trailerBytes-trailerIn, trailerIn-trailerBytes}
 use Rattle.image.specs.declared.ImagePages.the-variants.{Pages, WrongSize}
@@ -22,27 +22,27 @@ use Rattle.pages.specs.declared.Small.{Small}
 pub record Sized (n pages : ℕ) : Type 0 where
   pub length : n ≡ imageLength pages
   pub least : 1 ≤ pages
-  pub most : pages ≤ 4_096
+  pub most : pages ≤ mostPages
 
 pub pages-of-length : (n pages : ℕ) → Sized n pages → imagePages n ≡ Pages pages
 unfolding imagePages
 pages-of-length n pages h =
     let same : n / 340 ≡ pages = omega arith in
-    let fits : eqb n (imageLength pages) && leb 1 pages && leb pages 4_096 ≡ true =
-    joint-three (eqb n (imageLength pages)) (leb 1 pages) (leb pages 4_096) (eq-eqb n (imageLength pages) (h .length)) (le-leb 1 pages (h .least)) (le-leb pages 4_096 (h .most)) in
+    let fits : eqb n (imageLength pages) && leb 1 pages && leb pages mostPages ≡ true =
+    joint-three (eqb n (imageLength pages)) (leb 1 pages) (leb pages mostPages) (eq-eqb n (imageLength pages) (h .length)) (le-leb 1 pages (h .least)) (le-leb pages mostPages (h .most)) in
     rw (same, fits)
 
 pub length-of-pages : (n pages : ℕ) → imagePages n ≡ Pages pages → Sized n pages
 unfolding imagePages
-length-of-pages n pages e = by-test (eqb n (imageLength (n / 340)) && leb 1 (n / 340) && leb (n / 340) 4_096) refl e
+length-of-pages n pages e = by-test (eqb n (imageLength (n / 340)) && leb 1 (n / 340) && leb (n / 340) mostPages) refl e
   where
-    by-test : (t : Bool) → eqb n (imageLength (n / 340)) && leb 1 (n / 340) && leb (n / 340) 4_096 ≡ t → sized t (n / 340) ≡ Pages pages → Sized n pages
+    by-test : (t : Bool) → eqb n (imageLength (n / 340)) && leb 1 (n / 340) && leb (n / 340) mostPages ≡ t → sized t (n / 340) ≡ Pages pages → Sized n pages
     by-test true f g =
         let same : n / 340 ≡ pages = cc in
-        let h = three (eqb n (imageLength (n / 340))) (leb 1 (n / 340)) (leb (n / 340) 4_096) f in
+        let h = three (eqb n (imageLength (n / 340))) (leb 1 (n / 340)) (leb (n / 340) mostPages) f in
         let told = eqb-true n (imageLength (n / 340)) (h .0) in
         let low = leb-true 1 (n / 340) (h .1) in
-        let high = leb-true (n / 340) 4_096 (h .2) in
+        let high = leb-true (n / 340) mostPages (h .2) in
         record { length = omega arith; least = omega arith; most = omega arith }
     by-test false f g = let z : _≡_ {A = ℕ} 0 1 = cc in absurd (omega arith)
 
@@ -64,7 +64,7 @@ table-length pages image e = length-byteWords (170 * pages) (take (length image 
 
 -- a book whose root is a page and whose numbers have room in the trailer
 pub record Savable (pages : ℕ) (small : Small) : Type 0 where
-  pub most : pages ≤ 4_096
+  pub most : pages ≤ mostPages
   pub root : small .root < pages
   pub height : small .height < 65_536
   pub accepted : small .accepted < 4_294_967_296

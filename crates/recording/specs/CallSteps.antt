@@ -1,23 +1,28 @@
 -- The call: refused, or recorded.
-use Prim.Native.Nat.{ℕ, _+_, _≤_}
-use mathlib.Core.Bool.{true, false}
+use Prim.Native.Nat.{ℕ, suc, _+_, _-_, _≤_, _<_}
 use mathlib.Core.List.{List}
-use mathlib.Core.Path.{_≡_, refl, sym, ap, _∙_}
+use mathlib.Core.Path.{_≡_, refl, sym, ap, _∙_, subst}
 use native.Mathlib.Omega.{arith}
-use borrow.Author.Tests.{eq-eqb, ne-eqb}
-use lib.Dec.{eqb}
+use lib.ListN.{length}
 use Rattle.ground.specs.declared.boxes.Box.{Box}
+use Rattle.pages.specs.Facts.{fitting}
+use Rattle.pages.specs.FreeLaws.{free-most}
 use Rattle.pages.specs.Layout.{pagesOf, tableOf}
-use Rattle.pages.specs.LayoutLaws.{table-pages}
+use Rattle.pages.specs.LayoutLaws.{table-pages, pages-length}
 use Rattle.pages.specs.declared.Small.{Small}
 use Rattle.recording.specs.declared.Answered as code-answered
 use Rattle.recording.specs.declared.Called as code-called
 use Rattle.recording.specs.declared.Reply as code-reply
 use Rattle.recording.specs.declared.Reply.the-variants as say
-use Rattle.recording.specs.Recording.{recorded}
-use Rattle.recording.specs.Record.{Reply, Reply.Refused, Reply.Answered, Called, refusal, recordBy, recordInto}
-use Rattle.recording.specs.RecordSteps.{outcomeIs, SoundSmall, RootLevelFits, SmallIs, Records}
-use Rattle.recording.specs.RefusalSteps.{sound-small, none-refused}
+use Rattle.recording.specs.Book.{before}
+use Rattle.recording.specs.FromRoot.{root-level}
+use Rattle.recording.specs.FromWellFormed.{book}
+use Rattle.recording.specs.Record.{Reply, Reply.Refused, Reply.Answered, Called, refusal, answered, refused, recordInto}
+use Rattle.recording.specs.RecordLaws.{Accepted, not-refused, refused-law, answered-law, conditions-of, few}
+use Rattle.recording.specs.Recording.{recorded, fromRoot}
+use Rattle.recording.specs.RecordSteps.{outcomeIs, RootLevelFits, SmallIs, Records}
+use Rattle.recording.specs.RootSteps.{LevelFits}
+use Rattle.recording.specs.Scan.{handedIn}
 use Rattle.recording.specs.TableSteps.{still-fits}
 use Rattle.recording.specs.Views.{mostStruck}
 
@@ -29,23 +34,21 @@ replyOf (say.Says o k) = Answered (record { outcome = outcomeIs o; struck = k })
 abbrev pub calledOf : List ℕ → code-called.Called → Called
 calledOf t r = record { reply = replyOf (r .reply); table = t; small = r .small }
 
--- what the words can hold: the level of a new root, and the struck count. Both are so on every well-formed book.
-pub record WordsHold (t : List ℕ) (s : Small) (b : Box) (v : ℕ) : Type 0 where
-  pub level : RootLevelFits (pagesOf t) s b v
-  pub struck : recorded (pagesOf t) s b v .answer .struck ≤ mostStruck
+-- What a record on a sound book leaves: its answer, the table and the small record.
+abbrev pub answeredOf : List ℕ → code-answered.Answered → Called
+answeredOf t r = record { reply = Answered (record { outcome = outcomeIs (r .outcome); struck = r .struck }); table = t; small = r .small }
 
-pub record Calls (before after : List ℕ) (s : Small) (b : Box) (v : ℕ) (r : code-called.Called) : Type 0 where
-  pub refused-so : (refusal before s b v ≡ 0 → ⊥) → calledOf after r ≡ recordInto before s b v
-  pub recorded-so : WordsHold before s b v → calledOf after r ≡ recordInto before s b v
-
-refused-into : (t : List ℕ) (s : Small) (b : Box) (v n : ℕ) → n ≡ refusal t s b v → (n ≡ 0 → ⊥) → calledOf t (record { reply = say.Refused n; small = s }) ≡ recordInto t s b v
-unfolding recordInto
-refused-into t s b v n e d =
-    let z : eqb (refusal t s b v) 0 ≡ false = ne-eqb (refusal t s b v) 0 (λ w. d (e ∙ w)) in
-    ap (λ m. record { reply = Refused m; table = t; small = s }) e ∙ sym (ap (λ c. recordBy c t s b v) z)
-
-pub calls-refused : (t : List ℕ) (s : Small) (b : Box) (v n : ℕ) → n ≡ refusal t s b v → (n ≡ 0 → ⊥) → Calls t t s b v (record { reply = say.Refused n; small = s })
-calls-refused t s b v n e d = record { refused-so = λ w. refused-into t s b v n e d; recorded-so = λ w. refused-into t s b v n e d }
+-- the level of a new root fits its word
+root-level-fits : (t : List ℕ) (s : Small) (b : Box) (v : ℕ) → Accepted t s b v → RootLevelFits (pagesOf t) s b v
+root-level-fits t s b v a =
+    let ps = pagesOf t in
+    let k = book ps s (conditions-of t s (a .sound)) in
+    let h = k .height in
+    let r = a .room in
+    let e : s .height - 1 ≡ k .levels = omega arith in
+    let l = root-level (k .levels) v ps (s .root) (handedIn b) (before ps s k b v (a .lawful) (a .passes) (a .unspent) (a .room)) (omega arith) (length ps) in
+    let few : suc (k .levels) < 65_535 = omega (arith, free-most ps, pages-length t, fitting t (a .fits) .most) in
+    subst (λ (n : ℕ). LevelFits (fromRoot (length ps) n v ps (s .root) (handedIn b) .pages) (s .root)) (sym e) (omega (arith, l, few))
 
 same-small : (r x : Small) (a k : ℕ) → k ≤ mostStruck → x .struck ≡ a + k → SmallIs r x a k → r ≡ x
 same-small r x a k l e h =
@@ -56,22 +59,27 @@ same-small r x a k l e h =
     let c = h .covered-is in
     λ i. record { root = p i; height = q i; accepted = m i; struck = s i; covered = c i }
 
-pub calls-recorded : (t u : List ℕ) (s : Small) (b : Box) (v n : ℕ) (r : code-answered.Answered) → n ≡ refusal t s b v → n ≡ 0 → Records t u s b v r → Calls t u s b v (record { reply = say.Says (r .outcome) (r .struck); small = r .small })
-unfolding recordInto recorded
-calls-recorded t u s b v n r e z h =
-    record {
-      refused-so = λ d. absurd (d (sym e ∙ z));
-      recorded-so = λ w.
-          let o = h .records (w .level) in
-          let x = recorded (pagesOf t) s b v in
-          let y : eqb (refusal t s b v) 0 ≡ true = eq-eqb (refusal t s b v) 0 (sym e ∙ z) in
-          let f = still-fits t u (sound-small t s (none-refused t s b v (sym z ∙ e)) .fits) (h .same-length) in
-          let table : u ≡ tableOf (x .pages) = sym (table-pages u f) ∙ ap tableOf (o .pages-are) in
-          let struck : r .struck ≡ x .answer .struck = omega (arith, o .struck-is, w .struck) in
-          let outcome = o .outcome-is in
-          let small = same-small (r .small) (x .small) (s .struck) (x .answer .struck) (w .struck) refl (o .small-is) in
-          (λ i. record { reply = Answered (record { outcome = outcome i; struck = struck i }); table = table i; small = small i }) ∙ sym (ap (λ c. recordBy c t s b v) y);
-    }
+-- an accepted record leaves exactly what the rules give
+pub answered-so : (t u : List ℕ) (s : Small) (b : Box) (v : ℕ) (r : code-answered.Answered) → Accepted t s b v → Records t u s b v r → answeredOf u r ≡ answered (recorded (pagesOf t) s b v)
+unfolding recorded
+answered-so t u s b v r a h =
+    let o = h .records (root-level-fits t s b v a) in
+    let x = recorded (pagesOf t) s b v in
+    let most = few t s b v a .count in
+    let f = still-fits t u (a .fits) (h .same-length) in
+    let table : u ≡ tableOf (x .pages) = sym (table-pages u f) ∙ ap tableOf (o .pages-are) in
+    let struck : r .struck ≡ x .answer .struck = omega (arith, o .struck-is, most) in
+    let outcome = o .outcome-is in
+    let small = same-small (r .small) (x .small) (s .struck) (x .answer .struck) most refl (o .small-is) in
+    λ i. record { reply = Answered (record { outcome = outcome i; struck = struck i }); table = table i; small = small i }
 
-pub none-sound : (t : List ℕ) (s : Small) (b : Box) (v n : ℕ) → n ≡ refusal t s b v → n ≡ 0 → SoundSmall t s
-none-sound t s b v n e z = sound-small t s (none-refused t s b v (sym z ∙ e))
+module _ (t : List ℕ) (s : Small) (b : Box) (v n : ℕ) (e : n ≡ refusal t s b v) where
+  pub call-refused : (n ≡ 0 → ⊥) → calledOf t (record { reply = say.Refused n; small = s }) ≡ recordInto t s b v
+  call-refused d = ap (λ m. refused m t s) e ∙ sym (refused-law t s b v (λ w. d (e ∙ w)))
+
+  pub call-accepted : n ≡ 0 → Accepted t s b v
+  call-accepted z = not-refused t s b v (sym e ∙ z)
+
+  pub call-answered : (u : List ℕ) (r : code-answered.Answered) → n ≡ 0 → answeredOf u r ≡ answered (recorded (pagesOf t) s b v)
+      → calledOf u (record { reply = say.Says (r .outcome) (r .struck); small = r .small }) ≡ recordInto t s b v
+  call-answered u r z h = h ∙ sym (answered-law t s b v (sym e ∙ z))

@@ -9,9 +9,10 @@ use Rattle.ground.specs.declared.boxes.Box.{Box}
 use Rattle.pages.specs.Layout.{zeroEntry}
 use Rattle.pages.specs.declared.Entry.{Entry}
 use Rattle.pages.specs.declared.Page.{Page}
+use Rattle.split.specs.Split.{without}
 use Rattle.split.specs.SplitLaws.{weigh, Each, weigh-append, each-append}
 use Rattle.recording.specs.Lists.{bestOf, best-append, set-weigh, set-best, set-each}
-use Rattle.recording.specs.Recording.{goesBefore, leastGrown, choose, without, exactAt}
+use Rattle.recording.specs.Recording.{goesBefore, leastGrown, choose, exactAt}
 use Rattle.recording.specs.SettleLaws.{handle}
 
 -- the chosen place is one of the list

@@ -55,16 +55,6 @@ pub best-all : (b : Box) (es : List Entry) (i : ℕ) (best : Choice) → length 
 unfolding bestTo choose
 best-all b es i best l m h = let z : i - 1 ≡ length es - 1 = omega arith in ap (λ c. c .at) h ∙ ap (leastGrown b es) z
 
--- no place is above the last
-pub least-most : (b : Box) (es : List Entry) (n : ℕ) → leastGrown b es n ≤ n
-unfolding leastGrown
-least-most b es zero = omega arith
-least-most b es (suc n) = by-test (goesBefore b (getD es (suc n) zeroEntry) (getD es (leastGrown b es n) zeroEntry)) (least-most b es n)
-  where
-    by-test : (t : Bool) → leastGrown b es n ≤ n → cond t (suc n) (leastGrown b es n) ≤ suc n
-    by-test true h = omega arith
-    by-test false h = omega arith
-
 pub grown-is : (b p j : Box) (s g : ℕ) → j ≡ join p b → s ≡ size p → g ≡ size j → s ≤ g
 grown-is b p j s g e q h = let k : g ≡ size (join p b) = h ∙ ap size e in omega (arith, grows b p)
 

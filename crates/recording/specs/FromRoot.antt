@@ -2,25 +2,28 @@
 use mathlib.Core.Bool.{Bool, true, false, true≢false}
 use mathlib.Core.List.{List, [], _∷_}
 use mathlib.Core.Path.{_≡_, refl, sym, ap, _∙_, subst}
-use Prim.Native.Nat.{ℕ, zero, suc, _+_, _≤_}
+use Prim.Native.Nat.{ℕ, zero, suc, _+_, _≤_, _<_}
 use native.Mathlib.Numerals.{add-one}
 use native.Mathlib.Omega.{arith}
 use lib.ListN.{length, set}
+use lib.Seq.{getD-set-same}
 use Rattle.pages.specs.Free.{freeCount, lowestFree}
 use Rattle.pages.specs.FreeLaws.{lowest-at, lowest-found}
+use Rattle.pages.specs.Layout.{freePage}
 use Rattle.pages.specs.Summary.{inUse}
+use Rattle.pages.specs.declared.Entry.{Entry}
 use Rattle.pages.specs.declared.FreePage.{FreePage}
 use Rattle.pages.specs.declared.Page.{Page}
 use Rattle.split.specs.Split.{pageFrom}
 use Rattle.split.specs.SplitLaws.{Each}
 use Rattle.wellformed.specs.WellFormed.{page}
-use Rattle.recording.specs.CameLaws.{Came, Before}
+use Rattle.recording.specs.CameLaws.{Came, Before, after-strike}
 use Rattle.recording.specs.EmptyRoot.{empty-walk, empty-root}
 use Rattle.recording.specs.Recording.{Became, Became.stands, Became.split, Became.emptied, Became.again as startAgain, Walked, Rooted, newRootAt, putRootRight, walkDown, startAgainBy, plusStruck, fromRoot}
 use Rattle.recording.specs.RootLaws.{Grown, alone, stands-grown, split-root}
 use Rattle.recording.specs.Scan.{Sought}
 use Rattle.recording.specs.SettleLaws.{handle, Handles}
-use Rattle.recording.specs.Strike.{rest}
+use Rattle.recording.specs.Strike.{rest, strike}
 use Rattle.recording.specs.Tree.{Sound, level-of}
 use Rattle.recording.specs.WalkLaws.{walk-law}
 
@@ -49,6 +52,12 @@ from-root-stops zero n v ps r s e = refl
 from-root-stops (suc fuel) n v ps r s e =
     stops (walkDown n v ps r s .became) (λ x. plusStruck (x .struck) (fromRoot fuel n v (x .pages) r (x .sought))) (walkDown n v ps r s) e
 
+-- the page that the first entry stands for, with its level
+first-level : (qs : List Page) (n r : ℕ) (hs more : List Entry) → Each (Sound qs (suc n)) hs → hs ≡ handle qs r ∷ more → page qs r .level ≡ suc n
+first-level qs n r hs more h e =
+    let x : Each (Sound qs (suc n)) (handle qs r ∷ more) = subst (Each (Sound qs (suc n))) e h in
+    level-of qs n r (Sound qs n) (alone qs n r (x .0) .tree)
+
 module _ (n v : ℕ) (ps : List Page) (r : ℕ) (s : Sought) (h : Before n v ps r s) (room : suc (suc n) ≤ freeCount ps) where
   w : Walked
   w = walkDown n v ps r s
@@ -58,8 +67,7 @@ module _ (n v : ℕ) (ps : List Page) (r : ℕ) (s : Sought) (h : Before n v ps 
     new-root q e =
         let f = lowest-found (w .pages) (let a = c .moved .spent in omega arith) in
         let g = split-root n v ps r s w c q e (f .0) (lowest-at (w .pages) (f .0) (f .1)) (h .apart) in
-        let snd : Each (Sound (w .pages) (suc n)) (handle (w .pages) r ∷ handle (w .pages) q ∷ []) = subst (Each (Sound (w .pages) (suc n))) e (c .sound) in
-        let l : page (w .pages) r .level + 1 ≡ suc (suc n) = add-one (page (w .pages) r .level) ∙ ap suc (level-of (w .pages) n r (Sound (w .pages) n) (alone (w .pages) n r (snd .0) .tree)) in
+        let l : page (w .pages) r .level + 1 ≡ suc (suc n) = add-one (page (w .pages) r .level) ∙ ap suc (first-level (w .pages) n r (c .handles) (handle (w .pages) q ∷ []) (c .sound) e) in
         let at : (m : ℕ) → m ≡ suc (suc n) → GrownTo n v ps r s w (record { pages = set (w .pages) (f .0) (pageFrom m (handle (w .pages) r ∷ handle (w .pages) q ∷ [])); root = f .0 }) =
         λ m d. record {
           levels = suc n;
@@ -74,12 +82,27 @@ module _ (n v : ℕ) (ps : List Page) (r : ℕ) (s : Sought) (h : Before n v ps 
     by-became emptied e = absurd e
     by-became startAgain e = absurd e
 
+    level-by : (o : Became) → Handles (w .pages) r o (c .handles) → page (w .pages) r .level ≡ suc n
+    level-by stands e = first-level (w .pages) n r (c .handles) [] (c .sound) e
+    level-by (split q) e = first-level (w .pages) n r (c .handles) (handle (w .pages) q ∷ []) (c .sound) e
+    level-by emptied e = absurd e
+    level-by startAgain e = absurd e
+
   by-length : (k : ℕ) → length (rest (s .box) v (inUse (page ps r))) ≡ k → (startsAgain (w .became) ≡ false) × GrownTo n v ps r s w (putRootRight (w .became) (w .pages) r v (w .sought))
   unfolding w
   by-length (suc k) e = let c = walk-law n v ps r s h (omega arith) in by-became c (w .became) (c .shape)
   by-length zero e =
       subst (λ (x : Walked). (startsAgain (x .became) ≡ false) × GrownTo n v ps r s x (putRootRight (x .became) (x .pages) r v (x .sought))) (sym (empty-walk n v ps r s e))
       (refl, record { levels = 0; most = omega arith; grown = empty-root n v ps r s h e (page ps r .level) })
+
+  level-left : (k : ℕ) → length (rest (s .box) v (inUse (page ps r))) ≡ k → page (w .pages) r .level ≡ suc n
+  unfolding w pageFrom
+  level-left (suc k) e = let c = walk-law n v ps r s h (omega arith) in level-by c (w .became) (c .shape)
+  level-left zero e =
+      let x = strike n (s .box) v ps (inUse (page ps r)) in
+      let inside : r < length (x .pages) = let a = after-strike n v ps r s h .same-length in let b = h .stands .inside in omega arith in
+      let stored = getD-set-same (x .pages) r (pageFrom (page ps r .level) []) freePage inside in
+      subst (λ (y : Walked). page (y .pages) r .level ≡ suc n) (sym (empty-walk n v ps r s e)) (ap (λ (y : Page). y .level) stored ∙ level-of ps n r (Sound ps n) (h .stands))
 
   -- rule 2's second half never happens
   pub never-again : startsAgain (walkDown n v ps r s .became) ≡ false
@@ -91,3 +114,10 @@ module _ (n v : ℕ) (ps : List Page) (r : ℕ) (s : Sought) (h : Before n v ps 
   root-law fuel =
       subst (λ (x : Walked). GrownTo n v ps r s x (putRootRight (x .became) (x .pages) r v (x .sought))) (sym (from-root-stops fuel n v ps r s never-again))
       (by-length (length (rest (s .box) v (inUse (page ps r)))) refl .1)
+
+  -- the walk leaves the root page at its level
+  pub root-level : (fuel : ℕ) → page (fromRoot fuel n v ps r s .pages) r .level ≡ suc n
+  unfolding w
+  root-level fuel =
+      subst (λ (x : Walked). page (x .pages) r .level ≡ suc n) (sym (from-root-stops fuel n v ps r s never-again))
+      (level-left (length (rest (s .box) v (inUse (page ps r)))) refl)

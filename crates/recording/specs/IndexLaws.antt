@@ -14,7 +14,7 @@ use Rattle.pages.specs.Layout.{pageEntries, zeroEntry, freePage}
 use Rattle.pages.specs.Summary.{inUse}
 use Rattle.pages.specs.declared.Entry.{Entry}
 use Rattle.pages.specs.declared.Page.{Page}
-use Rattle.split.specs.Split.{pageFrom}
+use Rattle.split.specs.Split.{pageFrom, without}
 use Rattle.split.specs.SplitLaws.{weigh, Each, each-at, page-from-in-use}
 use Rattle.wellformed.specs.WellFormed.{page}
 use Rattle.recording.specs.CameLaws.{allRecords, kept, Came, Before, best-perm, weaken, settle-hands-on}
@@ -23,7 +23,7 @@ use Rattle.recording.specs.Frame.{loads, Unchanged, loads-unchanged, rec
 use Rattle.recording.specs.Lists.{bestOf, best-flat, weigh-flat, at-weigh, at-best, at-each}
 use Rattle.recording.specs.Moves.{only-same, Pages, Apart, Moved, moved-apart, beside, again, then, write}
 use Rattle.recording.specs.OnePage.{bests, scan-keeps, never-empty}
-use Rattle.recording.specs.Recording.{Became, Became.stands, Became.split, Became.emptied, Became.again as startAgain, Walked, Walk, choose, without, exactAt, settle, comeBackBy, comeBack, goDown}
+use Rattle.recording.specs.Recording.{Became, Became.stands, Became.split, Became.emptied, Became.again as startAgain, Walked, Walk, choose, exactAt, settle, comeBackBy, comeBack, goDown}
 use Rattle.recording.specs.Scan.{Sought, scan}
 use Rattle.recording.specs.Score.{score, Scanned}
 use Rattle.recording.specs.SettleLaws.{handle, Handles, Settled, Ready, in-use-not-free}

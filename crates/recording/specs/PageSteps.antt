@@ -12,9 +12,8 @@ use Rattle.pages.specs.Layout.{pageEntries, zeroEntry}
 use Rattle.pages.specs.Summary.{inUse}
 use Rattle.pages.specs.declared.Entry.{Entry}
 use Rattle.pages.specs.declared.Page.{Page}
-use Rattle.split.specs.Split.{pageFrom}
+use Rattle.split.specs.Split.{pageFrom, without}
 use Rattle.split.specs.SplitLaws.{page-from-in-use}
-use Rattle.recording.specs.Recording.{without}
 use Rattle.recording.specs.StrikeSteps.{Filled, filled-none, filled-more, filled-page, used-at}
 
 -- a page that is these entries, at most eight, and the rest 0

@@ -7,6 +7,7 @@ use native.Mathlib.Omega.{arith}
 use borrow.Author.Tests.{not-false, eqb-false, eq-eqb, ltb-false, ne-eqb}
 use lib.Dec.{eqb, ltb}
 use lib.ListN.{length, set, length-set}
+use Rattle.asking.specs.BoxMax.{score, boxMax}
 use Rattle.ground.specs.Boxes.{covers, legal, gustPasses}
 use Rattle.ground.specs.declared.boxes.Box.{Box}
 use Rattle.pages.specs.Facts.{fitting}
@@ -24,18 +25,12 @@ use Rattle.recording.specs.Book.{Book, saysCovered, recorded-law, before
 use Rattle.recording.specs.CameLaws.{keptIf}
 use Rattle.recording.specs.FromRoot.{from-root-stops, never-again}
 use Rattle.recording.specs.FromWellFormed.{Conditions, book}
-use Rattle.recording.specs.Lists.{bestOf}
 use Rattle.recording.specs.Record.{firstOf, refusal, answered, refused, recordInto}
 use Rattle.recording.specs.Recording.{Recorded, recorded, walkDown, fromRoot}
 use Rattle.recording.specs.Scan.{handedIn}
-use Rattle.recording.specs.Score.{score}
 use Rattle.recording.specs.StrikeLaws.{standing}
 use Rattle.recording.specs.ToWellFormed.{book-held, book-eight, conditions}
-use Rattle.recording.specs.Tree.{hit, Sound}
-
--- What the best of the held records counts for a question: 0 is nothing, and else the gust is one less.
-abbrev pub bestHeld : List Page → Small → Box → ℕ
-bestHeld ps s q = bestOf (hit q) (heldRecords ps s)
+use Rattle.recording.specs.Tree.{Sound}
 
 -- the conditions of a table's pages, and back
 pub conditions-of : (t : List ℕ) (s : Small) → wellFormed t s ≡ true → Conditions (pagesOf t) s
@@ -123,8 +118,8 @@ pub record RecordLaw (t : List ℕ) (s : Small) (b : Box) (v : ℕ) (r : Recorde
   pub well-formed : wellFormed (tableOf (r .pages)) (r .small) ≡ true
   pub same-length : length (tableOf (r .pages)) ≡ length t
   pub same-pages : pagesOf (tableOf (r .pages)) ≡ r .pages
-  -- the answer law: for every legal question the greater of the best before and the new record, b as handed in
-  pub answers : (q : Box) → legal q ≡ true → bestHeld (r .pages) (r .small) q ≡ max (bestHeld (pagesOf t) s q) (score q b v)
+  -- the answer law: for every legal question the greater of the box-max before and the new record's score, b as handed in
+  pub answers : (q : Box) → legal q ≡ true → boxMax q (heldRecords (r .pages) (r .small)) ≡ max (boxMax q (heldRecords (pagesOf t) s)) (score q b v)
   -- the struck count is exactly the number of records that left; but for them and the new record, none for Covered, the held records are the same
   pub gone : List Entry
   pub counted : r .answer .struck ≡ length gone
@@ -147,7 +142,7 @@ record-law t s b v a =
       well-formed = table-well-formed t (a .fits) (r .pages) (r .small) (l .after) (l .same-length);
       same-length = table-same-length t (a .fits) (r .pages) (r .small) (l .after) (l .same-length);
       same-pages = table-back t (a .fits) (r .pages) (r .small) (l .after) (l .same-length);
-      answers = λ q e. ap (bestOf (hit q)) n ∙ l .answers q e ∙ ap (λ (x : List Entry). max (bestOf (hit q) x) (score q b v)) (sym o);
+      answers = λ q e. ap (boxMax q) n ∙ l .answers q e ∙ ap (λ (x : List Entry). max (boxMax q x) (score q b v)) (sym o);
       gone = l .gone;
       counted = l .counted;
       left = l .left;

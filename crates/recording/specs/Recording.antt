@@ -4,7 +4,7 @@ use Prim.Native.Nat.{ℕ, zero, suc, _+_, _-_}
 use mathlib.Core.Bool.{Bool, true, false, _&&_, cond}
 use mathlib.Core.List.{List, [], _∷_, _++_}
 use lib.Dec.{leb, ltb, eqb}
-use lib.ListN.{length, getD, set, take, drop}
+use lib.ListN.{length, getD, set}
 use Rattle.ground.specs.Boxes.{join, size}
 use Rattle.ground.specs.declared.boxes.Box.{Box}
 use Rattle.pages.specs.Layout.{pageEntries, zeroBox, zeroEntry, freePage}
@@ -15,7 +15,7 @@ use Rattle.pages.specs.declared.FreePage.{FreePage}
 use Rattle.pages.specs.declared.FreePage.the-variants.{At, NoPage}
 use Rattle.pages.specs.declared.Page.{Page}
 use Rattle.pages.specs.declared.Small.{Small}
-use Rattle.split.specs.Split.{lessOrTie, halves, pageFrom}
+use Rattle.split.specs.Split.{lessOrTie, halves, pageFrom, without}
 use Rattle.wellformed.specs.WellFormed.{page}
 use Rattle.recording.specs.Strike.{rest, strike}
 use Rattle.recording.specs.Scan.{Sought, handedIn, scan}
@@ -83,9 +83,6 @@ settle ps p level es s k = settleBy (leb (length es) pageEntries) ps p level es 
 -- Coming back to page p from the child at place i: its entry is made exact, before the page is split.
 unfoldable pub exactAt : List Page → List Entry → ℕ → List Entry
 exactAt ps es i = let c = getD es i zeroEntry .child in set es i (summaryOf c (page ps c))
-
-abbrev pub without : ℕ → List Entry → List Entry
-without i es = take i es ++ drop (suc i) es
 
 -- A child that was split has its second group appended. A child left with no entry is freed and its entry taken away (rule 2), and the record starts again at the root.
 abbrev pub comeBackBy : Became → List Page → ℕ → ℕ → List Entry → ℕ → Sought → ℕ → Walked

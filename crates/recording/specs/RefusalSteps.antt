@@ -19,7 +19,7 @@ use Rattle.wellformed.specs.Parts.{parts}
 use Rattle.wellformed.specs.WellFormed.{wellFormed, mostAccepted, heldRecords, checked, rootStands, countsStand, page}
 use Rattle.wellformed.specs.declared.verdict.Checked.{Checked}
 use Rattle.wellformed.specs.declared.verdict.Checked.the-variants.{Held, Damaged}
-use Rattle.recording.specs.Record.{firstOf, refusal}
+use Rattle.recording.specs.Record.{refusal}
 use Rattle.recording.specs.RecordSteps.{SoundSmall}
 
 -- whether the check found the book well-formed
@@ -66,10 +66,10 @@ module _ (t : List ℕ) (s : Small) (b : Box) (v : ℕ) where
   refused-6 a c d w y e h f k g l m n o p q =
       rw (sym e ∙ not-false a h, sym f ∙ not-false c k, sym g ∙ not-false d l, sym m ∙ not-false w n, ne-eqb (s .accepted) mostAccepted o, lt-ltb (freeCount (pagesOf t)) (s .height + 1) (leb-false (s .height + 1) (freeCount (pagesOf t)) (sym p ∙ not-true y q)))
 
-  pub not-refused : (a c d w y : Bool) → a ≡ tableFits t → not a ≡ false → c ≡ legal b → not c ≡ false → d ≡ gustPasses (record { tenths = v }) → not d ≡ false → w ≡ wellFormed t s → not w ≡ false → (s .accepted ≡ mostAccepted → ⊥)
+  pub refused-0 : (a c d w y : Bool) → a ≡ tableFits t → not a ≡ false → c ≡ legal b → not c ≡ false → d ≡ gustPasses (record { tenths = v }) → not d ≡ false → w ≡ wellFormed t s → not w ≡ false → (s .accepted ≡ mostAccepted → ⊥)
       → y ≡ leb (s .height + 1) (freeCount (pagesOf t)) → not y ≡ false → 0 ≡ refusal t s b v
   unfolding refusal
-  not-refused a c d w y e h f k g l m n o p q =
+  refused-0 a c d w y e h f k g l m n o p q =
       rw (sym e ∙ not-false a h, sym f ∙ not-false c k, sym g ∙ not-false d l, sym m ∙ not-false w n, ne-eqb (s .accepted) mostAccepted o, le-ltb (freeCount (pagesOf t)) (s .height + 1) (leb-true (s .height + 1) (freeCount (pagesOf t)) (sym p ∙ not-false y q)))
 
 -- a book that is well-formed
@@ -89,15 +89,3 @@ sound-small t s e =
       struck = omega arith;
       covered = omega arith;
     }
-
--- a refusal of 0 is none of the six
-pub none-refused : (t : List ℕ) (s : Small) (b : Box) (v : ℕ) → 0 ≡ refusal t s b v → wellFormed t s ≡ true
-unfolding refusal
-none-refused t s b v e = by-tests (tableFits t) (legal b) (gustPasses (record { tenths = v })) (wellFormed t s) e
-  where
-    by-tests : (a c d w : Bool) → 0 ≡ firstOf (not a) 1 (firstOf (not c) 2 (firstOf (not d) 3 (firstOf (not w) 4 (firstOf (eqb (s .accepted) mostAccepted) 5 (firstOf (ltb (freeCount (pagesOf t)) (s .height + 1)) 6 0))))) → w ≡ true
-    by-tests false c d w h = absurd (omega arith)
-    by-tests true false d w h = absurd (omega arith)
-    by-tests true true false w h = absurd (omega arith)
-    by-tests true true true false h = absurd (omega arith)
-    by-tests true true true true h = refl

@@ -17,13 +17,13 @@ use Rattle.pages.specs.declared.Entry.{Entry}
 use Rattle.pages.specs.declared.FreePage.{FreePage}
 use Rattle.pages.specs.declared.FreePage.the-variants.{At, NoPage}
 use Rattle.pages.specs.declared.Page.{Page}
-use Rattle.split.specs.Split.{halves, pageFrom, pagesFrom}
+use Rattle.split.specs.Split.{halves, pageFrom, pagesFrom, without}
 use Rattle.split.specs.declared.filling.Halves.{Halves}
 use Rattle.wellformed.specs.WellFormed.{page}
 use Rattle.recording.specs.declared.Became as code-became
 use Rattle.recording.specs.declared.Became.the-variants as case
 use Rattle.recording.specs.Scan.{Sought, handedIn}
-use Rattle.recording.specs.Recording.{Became, Became.stands, Became.split, Became.emptied, Became.again, Walked, intoPage, splitPage, settleBy, settle, exactAt, without, comeBackBy, comeBack}
+use Rattle.recording.specs.Recording.{Became, Became.stands, Became.split, Became.emptied, Became.again, Walked, intoPage, splitPage, settleBy, settle, exactAt, comeBackBy, comeBack}
 use Rattle.recording.specs.PageSteps.{Tidy, in-use-is, level-is, count-is}
 use Rattle.recording.specs.StrikeSteps.{used-at}
 use Rattle.recording.specs.Views.{Leaves, becameOf}

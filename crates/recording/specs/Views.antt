@@ -5,6 +5,7 @@ use mathlib.Core.Path.{_≡_}
 use lib.ListN.{length}
 use Rattle.pages.specs.Layout.{pagesOf}
 use Rattle.pages.specs.declared.Page.{Page}
+use Rattle.wellformed.specs.WellFormed.{mostAccepted}
 use Rattle.recording.specs.declared.Became as code-became
 use Rattle.recording.specs.declared.Became.the-variants as case
 use Rattle.recording.specs.declared.Sought as code-sought
@@ -20,7 +21,7 @@ pub record Leaves (before after : List ℕ) (ps : List Page) : Type 0 where
 
 -- The struck count stops at 1,000,000: no book that is well-formed holds more, and a spoilt one may name a page more than once.
 abbrev pub mostStruck : ℕ
-mostStruck = 1_000_000
+mostStruck = mostAccepted
 
 -- Pages freed, and the records among them counted from k on.
 pub record Frees (before after : List ℕ) (k r : ℕ) (s : Struck) : Type 0 where

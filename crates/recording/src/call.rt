@@ -5,10 +5,12 @@ use crate::refusal::refusal;
 use crate::sound::recorded;
 use ground::Box;
 use pages::Small;
-ghost use Rattle.recording.specs.CallSteps.{Calls};
+ghost use mathlib.Core.Path.{_≡_};
+ghost use Rattle.recording.specs.CallSteps.{calledOf};
+ghost use Rattle.recording.specs.Record.{recordInto};
 
 pub fn record(t: &mut [u16], s: Small, b: Box, v: u16) -> Called
-    ensures { λ r. ⌜ Calls (now (t .entry)) (now (t .exit)) s b v r ⌝ }
+    ensures { λ r. ⌜ calledOf (now (t .exit)) r ≡ recordInto (now (t .entry)) s b v ⌝ }
 {
     let no = refusal(t, s, b, v);
     if no != 0 {

@@ -57,7 +57,7 @@ pub struct Answered {
 
 // A refusal's number, or the answer with the struck count.
 pub enum Reply {
-    Refused(u32),
+    Refused(u8),
     Says(Outcome, u32),
 }
 

@@ -17,7 +17,7 @@ fn is_well_formed(t: &[u16], s: Small) -> bool
     }
 }
 
-pub fn refusal(t: &[u16], s: Small, b: Box, v: u16) -> u32
+pub fn refusal(t: &[u16], s: Small, b: Box, v: u16) -> u8
     ensures { λ r. ⌜ r ≡ refusal (now (t .entry)) s b v ⌝ }
 {
     if !pages::table_fits(t) {
@@ -33,7 +33,7 @@ pub fn refusal(t: &[u16], s: Small, b: Box, v: u16) -> u32
     if !is_well_formed(t, s) {
         return 4;
     }
-    if s.accepted == 1000000 {
+    if s.accepted == Small::MOST_ACCEPTED {
         return 5;
     }
     let height = s.height as usize;

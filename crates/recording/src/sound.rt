@@ -12,10 +12,13 @@ use pages::Small;
 ghost use mathlib.Core.Bool.{true, cond};
 ghost use mathlib.Core.Path.{_≡_};
 ghost use Prim.Native.Nat.{_+_, _≤_};
-ghost use Rattle.pages.specs.Layout.{tableFits};
+ghost use Rattle.pages.specs.Layout.{tableFits, pagesOf};
 ghost use Rattle.wellformed.specs.WellFormed.{mostAccepted};
-ghost use Rattle.recording.specs.Recording.{outcomeOf};
-ghost use Rattle.recording.specs.RecordSteps.{outcomeIs, SoundSmall, SmallMade, Records};
+ghost use Rattle.recording.specs.CallSteps.{answeredOf};
+ghost use Rattle.recording.specs.Record.{answered};
+ghost use Rattle.recording.specs.RecordLaws.{Accepted};
+ghost use Rattle.recording.specs.Recording.{outcomeOf, recorded};
+ghost use Rattle.recording.specs.RecordSteps.{outcomeIs, SmallMade};
 ghost use Rattle.recording.specs.Views.{mostStruck, soughtOf};
 
 fn outcome_of(s: Sought) -> Outcome
@@ -53,8 +56,8 @@ fn small_after(t: &[u16], s: Small, w: Walked, root: u16) -> Small
 }
 
 pub fn recorded(t: &mut [u16], s: Small, b: Box, v: u16) -> Answered
-    requires { ⌜ SoundSmall (now t) s ⌝ }
-    ensures { λ r. ⌜ Records (now (t .entry)) (now (t .exit)) s b v r ⌝ }
+    requires { ⌜ Accepted (now t) s b v ⌝ }
+    ensures { λ r. ⌜ answeredOf (now (t .exit)) r ≡ answered (recorded (pagesOf (now (t .entry))) s b v) ⌝ }
 {
     let root = s.root as u16;
     let height = s.height as usize;

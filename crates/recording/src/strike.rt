@@ -5,6 +5,7 @@ use crate::table::used;
 use ground::Box;
 use pages::Entry;
 use pages::Page;
+use pages::Small;
 ghost use mathlib.Core.Bool.{true};
 ghost use mathlib.Core.List.{map};
 ghost use mathlib.Core.Path.{_≡_};
@@ -60,7 +61,11 @@ pub fn more_struck(struck: u32, more: u32) -> u32
     ensures { λ r. ⌜ r ≡ min (struck + more) mostStruck ⌝ }
 {
     let sum = struck as u64 + more as u64;
-    if sum <= 1000000 { sum as u32 } else { 1000000 }
+    if sum <= Small::MOST_ACCEPTED as u64 {
+        sum as u32
+    } else {
+        Small::MOST_ACCEPTED
+    }
 }
 
 // Frees page p and, n levels deep, all pages under it; the leaf records there are struck.

@@ -71,7 +71,7 @@ pub record Groups : Type 0 where
   pub second : Group
   pub unplaced : List ℕ
 
-abbrev pub without : ℕ → List ℕ → List ℕ
+abbrev pub without : {A : Type 0} → ℕ → List A → List A
 without k is = take k is ++ drop (suc k) is
 
 unfoldable pub begin : List Box → Groups

@@ -1,26 +1,26 @@
 -- `recording::call::record` meets its contract.
-use Rattle.recording.specs.CallSteps.{calls-refused, calls-recorded, none-sound}
+use Rattle.recording.specs.CallSteps.{call-refused, call-accepted, call-answered}
 use borrow.Author.Needs.{needs}
 use Rattle.recording.proofs.call.record.Statement.{statement}
 use Rattle.recording.proofs.call.record.Tie as tie
 
 refusal-requires : tie.Need-refusal-requires
-refusal-requires c κs = search needs
+refusal-requires c κs = tt
 
 same-length : tie.Need-same-length
 same-length c = search needs
 
 returns : tie.Need-returns
-returns c = calls-refused (c .before .before .before .before .args .t .now) _ (c .before .before .before .before .args .b) (c .before .before .before .before .args .v) _ (c .before .refusal .ensures) (c .if1 .taken)
+returns c = call-refused (c .before .before .before .before .args .t .now) (c .before .before .before .before .args .s) (c .before .before .before .before .args .b) (c .before .before .before .before .args .v) _ (c .before .refusal .ensures) (c .if1 .taken)
 
 recorded-requires : tie.Need-recorded-requires
-recorded-requires c κs = none-sound (c .before .before .before .before .before .args .t .now) (c .before .before .before .before .before .args .s) (c .before .before .before .before .before .args .b) (c .before .before .before .before .before .args .v) (c .before .before .refusal .result) (c .before .before .refusal .ensures) (c .before .if1 .left)
+recorded-requires c κs = call-accepted (c .before .before .before .before .before .args .t .now) (c .before .before .before .before .before .args .s) (c .before .before .before .before .before .args .b) (c .before .before .before .before .before .args .v) (c .before .before .refusal .result) (c .before .before .refusal .ensures) (c .before .if1 .left)
 
 same-length-2 : tie.Need-same-length-2
 same-length-2 c = search needs
 
 returns-2 : tie.Need-returns-2
-returns-2 c = calls-recorded (c .before .before .before .before .before .before .before .before .before .args .t .now) _ (c .before .before .before .before .before .before .before .before .before .args .s) (c .before .before .before .before .before .before .before .before .before .args .b) (c .before .before .before .before .before .before .before .before .before .args .v) (c .before .before .before .before .before .before .refusal .result) (c .before .before .before .recorded .result) (c .before .before .before .before .before .before .refusal .ensures) (c .before .before .before .before .before .if1 .left) (c .before .before .before .recorded .ensures)
+returns-2 c = call-answered (c .before .before .before .before .before .before .before .before .before .args .t .now) (c .before .before .before .before .before .before .before .before .before .args .s) (c .before .before .before .before .before .before .before .before .before .args .b) (c .before .before .before .before .before .before .before .before .before .args .v) (c .before .before .before .before .before .before .refusal .result) (c .before .before .before .before .before .before .refusal .ensures) _ (c .before .before .before .recorded .result) (c .before .before .before .before .before .if1 .left) (c .before .before .before .recorded .ensures)
 
 pub record-spec : {M : Type 1} → statement M
 record-spec =

@@ -1,12 +1,11 @@
 -- `recording::page::leaf_entry` meets its contract.
 use Rattle.pages.specs.declared.Entry.{Entry}
 use mathlib.Core.Path.{ap}
-use borrow.Author.Needs.{needs}
 use Rattle.recording.proofs.page.leaf_entry.Statement.{statement}
 use Rattle.recording.proofs.page.leaf_entry.Tie as tie
 
 zero-entry-requires : tie.Need-zero-entry-requires
-zero-entry-requires c κs = search needs
+zero-entry-requires c κs = tt
 
 returns : tie.Need-returns
 returns c = ap (λ (e : Entry). record { place = c .before .args .b; gust = c .before .args .v; weakest = e .weakest; child = e .child; strongest = e .strongest; union = e .union }) (c .zero-entry .ensures)

@@ -5,7 +5,7 @@ use Rattle.recording.proofs.refusal.is_well_formed.Statement.{statement
 use Rattle.recording.proofs.refusal.is_well_formed.Tie as tie
 
 check-requires : tie.Need-check-requires
-check-requires c κs = search needs
+check-requires c κs = tt
 
 enum-told : tie.Need-enum-told
 enum-told c = search needs

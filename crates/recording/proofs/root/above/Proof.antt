@@ -8,7 +8,7 @@ load-requires : tie.Need-load-requires
 load-requires c κs = search needs
 
 blank-page-requires : tie.Need-blank-page-requires
-blank-page-requires c κs = search needs
+blank-page-requires c κs = tt
 
 summary-requires : tie.Need-summary-requires
 summary-requires c κs = search needs
@@ -23,7 +23,7 @@ element-set-from-x-2 : tie.Need-element-set-from-x-2
 element-set-from-x-2 c = search needs
 
 level-above-requires : tie.Need-level-above-requires
-level-above-requires c κs = search needs
+level-above-requires c κs = tt
 
 returns : tie.Need-returns
 returns c = above-made _ _ _ _ (c .before .before .before .blank-page .result) (c .before .before .before .before .load .result) _ _ (c .before .before .before .before .load .ensures) (c .before .before .before .blank-page .ensures) (c .level-above .ensures) (c .before .before .summary .ensures) (c .before .summary2 .ensures)

@@ -10,7 +10,7 @@ above-requires : tie.Need-above-requires
 above-requires c κs = search needs
 
 lowest-free-requires : tie.Need-lowest-free-requires
-lowest-free-requires c κs = search needs
+lowest-free-requires c κs = tt
 
 enum-known-free : tie.Need-enum-known-free
 enum-known-free c = search needs

@@ -5,10 +5,10 @@ use Rattle.recording.proofs.root.only_leaf.Statement.{statement}
 use Rattle.recording.proofs.root.only_leaf.Tie as tie
 
 blank-page-requires : tie.Need-blank-page-requires
-blank-page-requires c κs = search needs
+blank-page-requires c κs = tt
 
 leaf-entry-requires : tie.Need-leaf-entry-requires
-leaf-entry-requires c κs = search needs
+leaf-entry-requires c κs = tt
 
 element-set-from-x : tie.Need-element-set-from-x
 element-set-from-x c = search needs

@@ -18,7 +18,7 @@ enum-told-2 : tie.Need-enum-told-2
 enum-told-2 c = search needs
 
 only-leaf-requires : tie.Need-only-leaf-requires
-only-leaf-requires c κs = search needs
+only-leaf-requires c κs = tt
 
 store-requires : tie.Need-store-requires
 store-requires c κs = search needs

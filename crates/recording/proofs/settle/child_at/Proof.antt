@@ -5,7 +5,7 @@ use Rattle.recording.proofs.settle.child_at.Statement.{statement}
 use Rattle.recording.proofs.settle.child_at.Tie as tie
 
 used-requires : tie.Need-used-requires
-used-requires c κs = search needs
+used-requires c κs = tt
 
 returns : tie.Need-returns
 returns c = child-out (c .before .before .args .t1) _ _ (c .before .used .ensures .0) (c .if1 .taken)

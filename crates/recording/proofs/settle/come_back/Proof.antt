@@ -33,7 +33,7 @@ load-requires : tie.Need-load-requires
 load-requires c κs = search needs
 
 child-at-requires : tie.Need-child-at-requires
-child-at-requires c κs = search needs
+child-at-requires c κs = tt
 
 cast-release : tie.Need-cast-release
 cast-release c = search needs
@@ -42,7 +42,7 @@ release-requires : tie.Need-release-requires
 release-requires c κs = search needs
 
 take-out-requires : tie.Need-take-out-requires
-take-out-requires c κs = search needs
+take-out-requires c κs = tt
 
 store-requires : tie.Need-store-requires
 store-requires c κs = still-fits (c .before .before .before .before .before .before .before .before .before .before .before .before .args .t .now) (c .before .before .before .before .release .last .0) (c .before .before .before .before .before .before .before .before .before .before .before .before .pre) (c .before .before .before .before .release .ensures .same-length)

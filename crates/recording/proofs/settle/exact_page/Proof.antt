@@ -8,10 +8,10 @@ load-requires : tie.Need-load-requires
 load-requires c κs = search needs
 
 tidy-requires : tie.Need-tidy-requires
-tidy-requires c κs = search needs
+tidy-requires c κs = tt
 
 child-at-requires : tie.Need-child-at-requires
-child-at-requires c κs = search needs
+child-at-requires c κs = tt
 
 summary-requires : tie.Need-summary-requires
 summary-requires c κs = search needs

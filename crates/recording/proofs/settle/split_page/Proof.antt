@@ -7,13 +7,13 @@ use Rattle.recording.proofs.settle.split_page.Statement.{statement}
 use Rattle.recording.proofs.settle.split_page.Tie as tie
 
 split-requires : tie.Need-split-requires
-split-requires c κs = search needs
+split-requires c κs = tt
 
 store-requires : tie.Need-store-requires
 store-requires c κs = search needs
 
 lowest-free-requires : tie.Need-lowest-free-requires
-lowest-free-requires c κs = search needs
+lowest-free-requires c κs = tt
 
 enum-known-free : tie.Need-enum-known-free
 enum-known-free c = search needs

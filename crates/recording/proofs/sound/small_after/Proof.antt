@@ -19,7 +19,7 @@ add-t11 : tie.Need-add-t11
 add-t11 c = search needs
 
 one-if-requires : tie.Need-one-if-requires
-one-if-requires c κs = search needs
+one-if-requires c κs = tt
 
 add-t13 : tie.Need-add-t13
 add-t13 c = search needs

@@ -2,12 +2,11 @@
 use native.Mathlib.Omega.{arith}
 use Rattle.pages.specs.Facts.{in-table}
 use Rattle.recording.specs.StrikeSteps.{named-out, named-in}
-use borrow.Author.Needs.{needs}
 use Rattle.recording.proofs.strike.children_of.Statement.{statement}
 use Rattle.recording.proofs.strike.children_of.Tie as tie
 
 no-children-requires : tie.Need-no-children-requires
-no-children-requires c κs = search needs
+no-children-requires c κs = tt
 
 returns : tie.Need-returns
 returns c = named-out _ _ _ (c .before .if1 .taken) (c .no-children .ensures)

@@ -4,7 +4,6 @@ use mathlib.Core.Logic.{⊎-elim}
 use Rattle.recording.specs.StrikeSteps.{Closing, closing-none, closing-kept, closing-struck, closed}
 use Rattle.pages.specs.Summary.{inUse}
 use Rattle.pages.specs.Layout.{pageEntries}
-use borrow.Author.Needs.{needs}
 use native.Mathlib.Omega.{arith}
 use mathlib.Core.Path.{_≡_, ap}
 use lib.ListN.{length}
@@ -19,10 +18,10 @@ abbrev μ-loop : tie.MeasureT-loop
 μ-loop b v x count kept₀ k₀ i₀ kept k i = count - i
 
 used-requires : tie.Need-used-requires Inv-loop μ-loop
-used-requires c κs = search needs
+used-requires c κs = tt
 
 blank-page-requires : tie.Need-blank-page-requires Inv-loop μ-loop
-blank-page-requires c κs = search needs
+blank-page-requires c κs = tt
 
 loop-holds : tie.Need-loop-holds Inv-loop μ-loop
 loop-holds c = (omega arith, c .before .used .ensures .1, c .before .used .ensures .0, closing-none _ _ _ _ (ap (λ (x : Page). x .entries) (c .blank-page .ensures)))

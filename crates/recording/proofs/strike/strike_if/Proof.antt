@@ -8,16 +8,16 @@ use Rattle.recording.proofs.strike.strike_if.Statement.{statement}
 use Rattle.recording.proofs.strike.strike_if.Tie as tie
 
 is-struck-requires : tie.Need-is-struck-requires
-is-struck-requires c κs = search needs
+is-struck-requires c κs = tt
 
 more-struck-requires : tie.Need-more-struck-requires
-more-struck-requires c κs = search needs
+more-struck-requires c κs = tt
 
 returns : tie.Need-returns
 returns c = entry-stays _ _ _ _ _ _ _ (sym (c .before .before .is-struck .ensures) ∙ not-true _ (c .before .if1 .taken)) (c .more-struck .ensures)
 
 more-struck-requires-2 : tie.Need-more-struck-requires-2
-more-struck-requires-2 c κs = search needs
+more-struck-requires-2 c κs = tt
 
 returns-2 : tie.Need-returns-2
 returns-2 c = record-struck _ _ _ _ _ _ _ (sym (c .before .before .before .is-struck .ensures) ∙ not-false _ (c .before .before .if1 .left)) (c .before .if2 .taken) (c .more-struck2 .ensures)

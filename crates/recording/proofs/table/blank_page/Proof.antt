@@ -2,12 +2,11 @@
 use lib.ListN.{replicate}
 use Rattle.pages.specs.declared.Entry.{Entry}
 use mathlib.Core.Path.{ap}
-use borrow.Author.Needs.{needs}
 use Rattle.recording.proofs.table.blank_page.Statement.{statement}
 use Rattle.recording.proofs.table.blank_page.Tie as tie
 
 zero-entry-requires : tie.Need-zero-entry-requires
-zero-entry-requires c κs = search needs
+zero-entry-requires c κs = tt
 
 returns : tie.Need-returns
 returns c = ap (λ (e : Entry). record { level = 0; count = 0; entries = replicate 8 e }) (c .zero-entry .ensures)

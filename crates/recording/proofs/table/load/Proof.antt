@@ -1,7 +1,6 @@
 -- `recording::table::load` meets its contract.
 use Rattle.pages.specs.Facts.{in-table}
 use Rattle.recording.specs.TableSteps.{load-in, load-out}
-use borrow.Author.Needs.{needs}
 use Rattle.recording.proofs.table.load.Statement.{statement}
 use Rattle.recording.proofs.table.load.Tie as tie
 
@@ -12,7 +11,7 @@ returns : tie.Need-returns
 returns c = load-in _ _ _ (c .before .if1 .taken) (c .read-page .ensures)
 
 blank-page-requires : tie.Need-blank-page-requires
-blank-page-requires c κs = search needs
+blank-page-requires c κs = tt
 
 returns-2 : tie.Need-returns-2
 returns-2 c = load-out _ _ _ (c .before .if1 .left) (c .blank-page .ensures)

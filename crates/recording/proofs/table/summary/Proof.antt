@@ -3,7 +3,6 @@ use mathlib.Core.Path.{ap}
 use Rattle.pages.specs.declared.Entry.{Entry}
 use Rattle.pages.specs.Facts.{in-table}
 use Rattle.recording.specs.TableSteps.{summary-in, summary-out}
-use borrow.Author.Needs.{needs}
 use Rattle.recording.proofs.table.summary.Statement.{statement}
 use Rattle.recording.proofs.table.summary.Tie as tie
 
@@ -14,7 +13,7 @@ returns : tie.Need-returns
 returns c = summary-in _ _ _ (c .before .if1 .taken) (c .summary-at .ensures)
 
 zero-entry-requires : tie.Need-zero-entry-requires
-zero-entry-requires c κs = search needs
+zero-entry-requires c κs = tt
 
 returns-2 : tie.Need-returns-2
 returns-2 c = summary-out _ _ _ (c .before .if1 .left) (ap (λ (e : Entry). record { place = e .place; gust = e .gust; weakest = e .weakest; child = c .before .before .before .args .p; strongest = e .strongest; union = e .union }) (c .zero-entry .ensures))

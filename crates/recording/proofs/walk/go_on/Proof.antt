@@ -16,7 +16,7 @@ returns : tie.Need-returns
 returns c = goes-emptied _ _ _ _ _ (c .before .before .before .before .before .before .before .args .x) _ (c .before .before .before .before .before .before .before .pre .1) (c .before .before .before .before .if1 .taken) (c .before .before .store .ensures) refl
 
 scan-requires : tie.Need-scan-requires
-scan-requires c κs = search needs
+scan-requires c κs = tt
 
 store-requires-2 : tie.Need-store-requires-2
 store-requires-2 c κs = search needs
@@ -28,7 +28,7 @@ returns-2 : tie.Need-returns-2
 returns-2 c = goes-covered _ _ _ _ _ (c .before .before .before .before .before .before .before .before .before .args .x) _ _ (c .before .before .before .before .before .before .before .before .before .pre .1) (omega arith) (c .before .before .before .before .before .scan .ensures) (c .before .before .before .before .if2 .taken) (c .before .before .store2 .ensures) refl
 
 leaf-entry-requires : tie.Need-leaf-entry-requires
-leaf-entry-requires c κs = search needs
+leaf-entry-requires c κs = tt
 
 settle-with-requires : tie.Need-settle-with-requires
 settle-with-requires c κs = search needs
@@ -40,13 +40,13 @@ returns-3 : tie.Need-returns-3
 returns-3 c = goes-appended _ _ _ _ _ (c .before .before .before .before .before .before .before .before .before .before .before .args .x) _ _ _ _ (c .before .before .before .before .before .before .before .before .before .before .before .pre .1) (omega arith) (c .before .before .before .before .before .before .before .scan .ensures) (c .before .before .before .before .before .before .if2 .left) (c .before .before .before .before .before .if3 .taken) (c .before .before .before .leaf-entry .ensures) (c .before .before .settle-with .ensures) refl
 
 choose-requires : tie.Need-choose-requires
-choose-requires c κs = search needs
+choose-requires c κs = tt
 
 store-requires-3 : tie.Need-store-requires-3
 store-requires-3 c κs = search needs
 
 child-at-requires : tie.Need-child-at-requires
-child-at-requires c κs = search needs
+child-at-requires c κs = tt
 
 same-length-4 : tie.Need-same-length-4
 same-length-4 c = search needs

@@ -1,17 +1,16 @@
 -- `recording::choose::Choice::of` meets its contract.
 use Rattle.recording.specs.ChooseSteps.{grown-is, choice-made}
-use borrow.Author.Needs.{needs}
 use Rattle.recording.proofs.choose.Choice.of.Statement.{statement}
 use Rattle.recording.proofs.choose.Choice.of.Tie as tie
 
 size-requires : tie.Need-size-requires
-size-requires c κs = search needs
+size-requires c κs = tt
 
 join-requires : tie.Need-join-requires
-join-requires c κs = search needs
+join-requires c κs = tt
 
 size-requires-2 : tie.Need-size-requires-2
-size-requires-2 c κs = search needs
+size-requires-2 c κs = tt
 
 sub-t7 : tie.Need-sub-t7
 sub-t7 c = grown-is (c .before .before .before .args .b) (c .before .before .before .args .e .place) _ _ _ (c .before .join .ensures) (c .before .before .size .ensures) (c .size2 .ensures)
