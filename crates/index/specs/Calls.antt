@@ -1,0 +1,75 @@
+-- Document 01, "When the book says no": clearing, counting, saving and loading. A refusal returns its number, and all stays unchanged; but loading that ends in 4 leaves the empty book.
+use Prim.Native.Nat.{ℕ, _*_}
+use mathlib.Core.Bool.{not, cond}
+use mathlib.Core.List.{List}
+use lib.Dec.{eqb}
+use lib.ListN.{length}
+use Rattle.image.specs.Image.{imageForm, imageLength, imageOf, imagePages, trailerOf, trailerGood, smallOf, tableOf as imageTable}
+use Rattle.image.specs.declared.ImagePages.{ImagePages}
+use Rattle.image.specs.declared.ImagePages.the-variants.{Pages, WrongSize}
+use Rattle.pages.specs.Free.{emptyTable, emptySmall}
+use Rattle.pages.specs.Layout.{pageWords, pagesIn, tableFits, pagesOf}
+use Rattle.pages.specs.declared.Small.{Small}
+use Rattle.wellformed.specs.WellFormed.{heldRecords, wellFormed}
+use Rattle.recording.specs.Record.{firstOf}
+use Rattle.index.specs.declared.Counted.{Counted}
+use Rattle.index.specs.declared.Counted.the-variants.{Refused, Counts}
+
+-- What clearing and loading leave: the refusal's number, 0 for none, the table and the small record.
+pub record Left : Type 0 where
+  pub refusal : ℕ
+  pub table : List ℕ
+  pub small : Small
+
+abbrev pub unchanged : ℕ → List ℕ → Small → Left
+unchanged n t s = record { refusal = n; table = t; small = s }
+
+abbrev pub emptyBook : ℕ → List ℕ → Left
+emptyBook n t = record { refusal = n; table = emptyTable t; small = emptySmall }
+
+-- Clearing: 1.
+unfoldable pub cleared : List ℕ → Small → Left
+cleared t s = cond (tableFits t) (emptyBook 0 t) (unchanged 1 t s)
+
+-- Counting: 1, 4. The four numbers: accepted, held, struck, covered.
+abbrev pub countsOf : List ℕ → Small → Counted
+countsOf t s = Counts (s .accepted) (length (heldRecords (pagesOf t) s)) (s .struck) (s .covered)
+
+unfoldable pub counted : List ℕ → Small → Counted
+counted t s = cond (tableFits t) (cond (wellFormed t s) (countsOf t s) (Refused 4)) (Refused 1)
+
+-- Saving: 1, 7, 4. The buffer must have the image's length.
+unfoldable pub saveRefusal : List ℕ → Small → List ℕ → ℕ
+saveRefusal t s out =
+    firstOf (not (tableFits t)) 1
+    (firstOf (not (eqb (length out) (imageLength (pagesIn t)))) 7
+    (firstOf (not (wellFormed t s)) 4
+    0))
+
+pub record Saved : Type 0 where
+  pub refusal : ℕ
+  pub buffer : List ℕ
+
+unfoldable pub saved : List ℕ → Small → List ℕ → Saved
+saved t s out = let n = saveRefusal t s out in record { refusal = n; buffer = cond (eqb n 0) (imageOf imageForm t s) out }
+
+-- Loading: 7, 1, 8 and 4. P is the number of pages that the image's length tells.
+abbrev pub pagesRefusal : List ℕ → List ℕ → ImagePages → ℕ
+pagesRefusal image t WrongSize = 7
+pagesRefusal image t (Pages p) =
+    firstOf (not (eqb (length t) (pageWords * p))) 1
+    (firstOf (not (trailerGood imageForm p (trailerOf image))) 8
+    0)
+
+unfoldable pub imageRefusal : List ℕ → List ℕ → ℕ
+imageRefusal image t = pagesRefusal image t (imagePages (length image))
+
+-- the small record that an image holds
+abbrev pub imageSmall : List ℕ → Small
+imageSmall image = smallOf (trailerOf image)
+
+abbrev pub loadedPages : List ℕ → List ℕ → Left
+loadedPages image t = cond (wellFormed (imageTable image) (imageSmall image)) (unchanged 0 (imageTable image) (imageSmall image)) (emptyBook 4 t)
+
+unfoldable pub loaded : List ℕ → List ℕ → Small → Left
+loaded image t s = let n = imageRefusal image t in cond (eqb n 0) (loadedPages image t) (unchanged n t s)

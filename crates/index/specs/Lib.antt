@@ -1,0 +1,7 @@
+-- Clearing, counting, saving and loading, to be read beside document 01, "When the book says no"; and what holds over any run of calls.
+pub mod Calls
+pub mod CallLaws
+pub mod Run
+pub mod RunLaws
+pub mod ImageCalls
+pub mod Settled
