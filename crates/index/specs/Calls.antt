@@ -38,6 +38,18 @@ countsOf t s = Counts (s .accepted) (length (heldRecords (pagesOf t) s)) (s .str
 unfoldable pub counted : List ℕ → Small → Counted
 counted t s = cond (tableFits t) (cond (wellFormed t s) (countsOf t s) (Refused 4)) (Refused 1)
 
+-- What each case says in document 01's numbers: the refusal, 0 for none, and the four numbers.
+pub record CountSaid : Type 0 where
+  pub refusal : ℕ
+  pub accepted : ℕ
+  pub held : ℕ
+  pub struck : ℕ
+  pub covered : ℕ
+
+abbrev pub countSays : Counted → CountSaid
+countSays (Refused number) = record { refusal = number; accepted = 0; held = 0; struck = 0; covered = 0 }
+countSays (Counts accepted held struck covered) = record { refusal = 0; accepted = accepted; held = held; struck = struck; covered = covered }
+
 -- Saving: 1, 7, 4. The buffer must have the image's length.
 unfoldable pub saveRefusal : List ℕ → Small → List ℕ → ℕ
 saveRefusal t s out =

@@ -3,7 +3,7 @@ use Prim.Native.Nat.{ℕ, zero, suc, _+_, _*_, _/_}
 use mathlib.Core.Bool.{Bool, _&&_}
 use mathlib.Core.List.{List, [], _∷_, _++_}
 use lib.Dec.{leb, eqb}
-use lib.ListN.{length, getD, take, drop, replicate}
+use lib.ListN.{length, getD, set, take, drop, replicate}
 use Rattle.ground.specs.declared.boxes.Range.{Range}
 use Rattle.ground.specs.declared.boxes.Box.{Box}
 use Rattle.pages.specs.declared.Small.{Small}
@@ -91,6 +91,10 @@ wordsOfEntries (e ∷ es) = wordsOfEntry e ++ wordsOfEntries es
 
 unfoldable pub wordsOfPage : Page → List ℕ
 wordsOfPage x = x .level ∷ x .count ∷ wordsOfEntries (x .entries)
+
+-- A page with another entry at place i, and a count.
+abbrev pub withEntry : Page → ℕ → ℕ → Entry → Page
+withEntry x n i e = record { level = x .level; count = n; entries = set (x .entries) i e }
 
 -- The table with another page p.
 unfoldable pub putPage : List ℕ → ℕ → Page → List ℕ

@@ -5,12 +5,12 @@ use Prim.Native.Nat.{ℕ, zero, suc, _+_, _*_, _-_, _≤_, _<_}
 use native.Mathlib.Omega.{arith}
 use native.Mathlib.Numerals.{add-one}
 use lib.ListN.{length, getD, take, drop, set, replicate, length-append, length-take, length-drop, length-set, length-replicate, length-map, drop-of-length-le}
-use lib.Seq.{sets, sets-eq, take-at, drop-at, drop-drop, take-suc, take-all, take-length, length-take-le, drop-cons, set-at, append-snoc}
+use lib.Seq.{sets, sets-eq, take-at, drop-at, drop-drop, take-suc, take-all, take-length, length-take-le, drop-cons, set-at, append-snoc, take-append-add, drop-append-add}
 use Rattle.pages.specs.declared.Entry.{Entry}
 use Rattle.pages.specs.declared.Page.{Page}
-use Rattle.pages.specs.Layout.{pageWords, entryWords, pageEntries, wordsOfBox, wordsOfEntry, wordsOfEntries, wordsOfPage, zeroEntry, freePage, putPage}
+use Rattle.pages.specs.Layout.{pageWords, entryWords, pageEntries, wordsOfBox, wordsOfEntry, wordsOfEntries, wordsOfPage, zeroEntry, freePage, withEntry, putPage, pageOf, pageAt, entriesOf}
 use Rattle.pages.specs.Facts.{InTable}
-use Rattle.pages.specs.LayoutLaws.{length-entry, length-page, length-entries, spread, spread-take, length-box, free-words}
+use Rattle.pages.specs.LayoutLaws.{entries-written, length-entries-of, page-front, length-entry, length-page, length-entries, spread, spread-take, length-box, free-words}
 
 -- the length of an array of structs is that of what it stands for
 pub unmapped {ℓ ℓ′} : {A : Type ℓ} {B : Type ℓ′} (f : A → B) (l : List A) (n : ℕ) → length (map f l) ≡ n → length l ≡ n
@@ -133,3 +133,39 @@ page-stored (a ∷ b ∷ r) x w h e =
 
 pub page-as-long : (s z : List ℕ) (x : Page) → length (x .entries) ≡ pageEntries → length s ≡ pageWords → z ≡ wordsOfPage x → length z ≡ length s
 page-as-long s z x n h p = ap length p ∙ length-page x n ∙ sym h
+
+-- one entry placed among the others
+entries-set : (es : List Entry) (i : ℕ) (e : Entry) → i < length es → placed (i * entryWords) entryWords (wordsOfEntries es) (wordsOfEntry e) ≡ wordsOfEntries (set es i e)
+unfolding wordsOfEntries
+entries-set [] i e h = absurd (omega arith)
+entries-set (x ∷ es) zero e h = ap (λ (l : List ℕ). wordsOfEntry e ++ l) (drop-at (wordsOfEntry x) (wordsOfEntries es) entryWords (length-entry x))
+entries-set (x ∷ es) (suc i) e h =
+    let a = wordsOfEntry x in
+    let b = wordsOfEntries es in
+    let k = i * entryWords in
+    let m : suc i * entryWords ≡ length (wordsOfEntry x) + i * entryWords = omega (arith, length-entry x) in
+    rw (m, take-append-add a b k, drop-append-add a b k) (append-assoc a (take k b) (wordsOfEntry e ++ drop entryWords (drop k b)) ∙ ap (λ (l : List ℕ). a ++ l) (entries-set es i e (omega arith)))
+
+-- an entry and the count stored in a page
+pub entry-placed : (s : List ℕ) (n i : ℕ) (e : Entry) (w : List ℕ) → length s ≡ pageWords → i < pageEntries → w ≡ wordsOfEntry e
+    → placed (2 + i * entryWords) (2 + i * entryWords + entryWords - (2 + i * entryWords)) (set s 1 n) w ≡ wordsOfPage (withEntry (pageOf s) n i e)
+unfolding wordsOfPage pageOf
+entry-placed [] n i e w h l f = absurd (omega arith)
+entry-placed (a ∷ []) n i e w h l f = absurd (omega arith)
+entry-placed (a ∷ b ∷ r) n i e w h l f =
+    let k : 2 + i * entryWords + entryWords - (2 + i * entryWords) ≡ entryWords = omega arith in
+    let m : 2 + i * entryWords ≡ suc (suc (i * entryWords)) = omega arith in
+    let whole : wordsOfEntries (entriesOf pageEntries r) ≡ r = entries-written pageEntries r (omega arith) ∙ take-all (pageEntries * entryWords) r (omega arith) in
+    let set-in = entries-set (entriesOf pageEntries r) i e (omega (arith, length-entries-of pageEntries r)) in
+    rw (k, m, f) (ap (λ (l : List ℕ). a ∷ n ∷ placed (i * entryWords) entryWords l (wordsOfEntry e)) (sym whole) ∙ ap (λ (l : List ℕ). a ∷ n ∷ l) set-in)
+
+-- and in the table
+pub place-put : (t : List ℕ) (p n i : ℕ) (e : Entry) (w : List ℕ) → InTable t p → w ≡ wordsOfPage (withEntry (pageOf (take (p * pageWords + pageWords - p * pageWords) (drop (p * pageWords) t))) n i e)
+    → placed (p * pageWords) (p * pageWords + pageWords - p * pageWords) t w ≡ putPage t p (withEntry (pageAt t p) n i e)
+unfolding pageAt
+place-put t p n i e w h f =
+    let k : p * pageWords + pageWords - p * pageWords ≡ pageWords = omega arith in
+    let l : length (drop (p * pageWords) t) ≡ _ = length-drop (p * pageWords) t in
+    let u = drop (p * pageWords) t in
+    let same : pageOf (take (p * pageWords + pageWords - p * pageWords) u) ≡ pageOf u = ap (λ (m : ℕ). pageOf (take m u)) k ∙ ap pageOf (sym (append-nil (take pageWords u))) ∙ page-front u [] (omega arith) in
+    page-placed t p (withEntry (pageOf u) n i e) w (f ∙ ap (λ (x : Page). wordsOfPage (withEntry x n i e)) same)

@@ -30,6 +30,7 @@ pub use words::page_is_zero;
 pub use words::rest_is_zero;
 pub use words::unused_is_zero;
 pub use writing::free_page;
+pub use writing::put_entry;
 pub use writing::put_page;
 ghost use mathlib.Core.Path.{_≡_};
 ghost use Rattle.pages.specs.Free.{emptySmall};

@@ -3,9 +3,9 @@ use crate::Entry;
 use crate::Page;
 use ground::Box;
 ghost use mathlib.Core.Path.{_≡_};
-ghost use Prim.Native.Nat.{_*_};
+ghost use Prim.Native.Nat.{_*_, _<_};
 ghost use lib.ListN.{length, replicate};
-ghost use Rattle.pages.specs.Layout.{pageWords, entryWords, pageEntries, freePage, putPage};
+ghost use Rattle.pages.specs.Layout.{pageWords, entryWords, pageEntries, freePage, pageOf, pageAt, withEntry, putPage};
 ghost use Rattle.pages.specs.Layout.{wordsOfBox, wordsOfEntry, wordsOfEntries, wordsOfPage};
 ghost use Rattle.pages.specs.Facts.{InTable};
 
@@ -63,6 +63,27 @@ pub fn put_page(t: &mut [u16], p: usize, x: Page)
     let start = p * Page::WORDS;
     let end = start + Page::WORDS;
     write_page(&mut t[start..end], x);
+}
+
+// One entry of a page, with its count.
+fn write_place(s: &mut [u16], i: usize, e: Entry, n: u16)
+    requires { ⌜ (length (now s) ≡ pageWords) × (i < pageEntries) ⌝ }
+    ensures { λ r. ⌜ now (s .exit) ≡ wordsOfPage (withEntry (pageOf (now (s .entry))) n i e) ⌝ }
+{
+    s[1] = n;
+    let start = 2 + i * Entry::WORDS;
+    let end = start + Entry::WORDS;
+    write_entry(&mut s[start..end], e);
+}
+
+// Another entry at place i of page p, with its count; all other words stay.
+pub fn put_entry(t: &mut [u16], p: usize, i: usize, e: Entry, n: u16)
+    requires { ⌜ InTable (now t) p × (i < pageEntries) ⌝ }
+    ensures { λ r. ⌜ now (t .exit) ≡ putPage (now (t .entry)) p (withEntry (pageAt (now (t .entry)) p) n i e) ⌝ }
+{
+    let start = p * Page::WORDS;
+    let end = start + Page::WORDS;
+    write_place(&mut t[start..end], i, e, n);
 }
 
 pub fn zero_words(s: &mut [u16])

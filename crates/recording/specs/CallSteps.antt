@@ -1,5 +1,6 @@
 -- The call: refused, or recorded.
 use Prim.Native.Nat.{ℕ, suc, _+_, _-_, _≤_, _<_}
+use mathlib.Core.Bool.{true}
 use mathlib.Core.List.{List}
 use mathlib.Core.Path.{_≡_, refl, sym, ap, _∙_, subst}
 use native.Mathlib.Omega.{arith}
@@ -7,16 +8,18 @@ use lib.ListN.{length}
 use Rattle.ground.specs.declared.boxes.Box.{Box}
 use Rattle.pages.specs.Facts.{fitting}
 use Rattle.pages.specs.FreeLaws.{free-most}
-use Rattle.pages.specs.Layout.{pagesOf, tableOf}
+use Rattle.pages.specs.Layout.{tableFits, pagesOf, tableOf}
 use Rattle.pages.specs.LayoutLaws.{table-pages, pages-length}
 use Rattle.pages.specs.declared.Small.{Small}
 use Rattle.recording.specs.declared.Answered as code-answered
 use Rattle.recording.specs.declared.Called as code-called
 use Rattle.recording.specs.declared.Reply as code-reply
 use Rattle.recording.specs.declared.Reply.the-variants as say
+use Rattle.recording.specs.declared.Sought as code-sought
 use Rattle.recording.specs.Book.{before}
 use Rattle.recording.specs.FromRoot.{root-level}
-use Rattle.recording.specs.FromWellFormed.{book}
+use Rattle.recording.specs.FromWellFormed.{book, all-tidy}
+use Rattle.recording.specs.LookSteps.{Within}
 use Rattle.recording.specs.Record.{Reply, Reply.Refused, Reply.Answered, Called, refusal, answered, refused, recordInto}
 use Rattle.recording.specs.RecordLaws.{Accepted, not-refused, refused-law, answered-law, conditions-of, few}
 use Rattle.recording.specs.Recording.{recorded, fromRoot}
@@ -24,7 +27,9 @@ use Rattle.recording.specs.RecordSteps.{outcomeIs, RootLevelFits, SmallI
 use Rattle.recording.specs.RootSteps.{LevelFits}
 use Rattle.recording.specs.Scan.{handedIn}
 use Rattle.recording.specs.TableSteps.{still-fits}
-use Rattle.recording.specs.Views.{mostStruck}
+use Rattle.recording.specs.TidyLaws.{Tidied}
+use Rattle.recording.specs.Views.{mostStruck, soughtOf}
+use Rattle.recording.specs.WithinLaws.{legal-within}
 
 -- Document 01's numbers and answers, by the code's cases.
 abbrev pub replyOf : code-reply.Reply → Reply
@@ -83,3 +88,9 @@ module _ (t : List ℕ) (s : Small) (b : Box) (v n : ℕ) (e : n ≡ refusal t s
   pub call-answered : (u : List ℕ) (r : code-answered.Answered) → n ≡ 0 → answeredOf u r ≡ answered (recorded (pagesOf t) s b v)
       → calledOf u (record { reply = say.Says (r .outcome) (r .struck); small = r .small }) ≡ recordInto t s b v
   call-answered u r z h = h ∙ sym (answered-law t s b v (sym e ∙ z))
+
+-- an accepted record may walk from the root
+pub may-walk-from-root : (t : List ℕ) (s : Small) (b : Box) (v : ℕ) (x : code-sought.Sought) → Accepted t s b v → soughtOf x ≡ handedIn b → (tableFits t ≡ true) × Tidied (pagesOf t) × Within (x .place) (x .place)
+may-walk-from-root t s b v x a e =
+    let own : x .place ≡ b = ap (λ y. y .box) e in
+    (a .fits, all-tidy (pagesOf t) s (conditions-of t s (a .sound)), subst (λ (y : Box). Within y y) (sym own) (legal-within b (a .lawful)))

@@ -19,6 +19,7 @@ use Rattle.pages.specs.Words.{every, allZero}
 use Rattle.pages.specs.declared.Entry.{Entry}
 use Rattle.pages.specs.declared.Page.{Page}
 use Rattle.pages.specs.declared.Small.{Small}
+use Rattle.split.specs.Split.{pageFrom}
 use Rattle.split.specs.SplitLaws.{Each}
 use Rattle.wellformed.specs.Counting.{times-sum, sum-by-page, Each as EachPage}
 use Rattle.wellformed.specs.Flat.{below, Lower, graded}
@@ -27,6 +28,7 @@ use Rattle.recording.specs.Book.{Book}
 use Rattle.recording.specs.Frame.{loads}
 use Rattle.recording.specs.Lists.{each-both}
 use Rattle.recording.specs.Moves.{only, freeAt, free, Clean}
+use Rattle.recording.specs.PageSteps.{Tidy}
 use Rattle.recording.specs.ReachLaws.{index-children, held-at, sum-at, inside-at, in-entries}
 use Rattle.recording.specs.RootLaws.{rootLoad, rootRecords}
 use Rattle.recording.specs.StrikeLaws.{standing}
@@ -240,3 +242,19 @@ module _ (ps : List Page) (s : Small) (c : Conditions ps s) where
         few = leb-true (s .accepted) mostAccepted (k .0);
         counts = let a = ap length held-is in let b = eqb-true (length (heldRecords ps s) + s .struck + s .covered) (s .accepted) (k .1) in omega arith;
       }
+
+  -- a well-formed book's pages are tidy
+  pub all-tidy : (p : ℕ) → Tidy (page ps p) (page ps p .level) (inUse (page ps p))
+  unfolding pageFrom
+  all-tidy p = ⊎-elim (λ (l : p < length ps). by-test l (isFree (page ps p)) refl) (λ (l : length ps ≤ p). free-one (List·getD-eq-default ps freePage {n = p} l)) (below-or-not p (length ps))
+    where
+      free-one : page ps p ≡ freePage → Tidy (page ps p) (page ps p .level) (inUse (page ps p))
+      free-one e = subst (λ (x : Page). Tidy x (x .level) (inUse x)) (sym e) (record { is = refl; most = omega arith })
+
+      by-test : p < length ps → (b : Bool) → isFree (page ps p) ≡ b → Tidy (page ps p) (page ps p .level) (inUse (page ps p))
+      by-test l true f = free-one (clean p f)
+      by-test l false f =
+          let b = busy p l f in
+          let k = in-use-length (page ps p) (c .eight p l) (b .most) in
+          let m = b .most in
+          record { is = page-form (page ps p) (page ps p .level) refl (c .eight p l) (b .most) (b .zeros); most = omega arith }

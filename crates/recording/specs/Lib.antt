@@ -42,6 +42,10 @@ pub mod StrikeSteps
 pub mod ScanSteps
 pub mod ChooseSteps
 pub mod SettleSteps
+pub mod LookSteps
+pub mod WithinLaws
+pub mod TidyLaws
+pub mod LyingSteps
 pub mod WalkSteps
 pub mod RootSteps
 pub mod RecordSteps

@@ -20,6 +20,7 @@ use Rattle.recording.specs.declared.Became.the-variants as case
 use Rattle.recording.specs.declared.Walked as code-walked
 use Rattle.recording.specs.Scan.{Sought}
 use Rattle.recording.specs.Recording.{leafEntry, Became, Became.stands, Became.split, Became.emptied, Became.again, Walked, walkDown, startAgainBy, plusStruck, fromRoot, Rooted, newRootAt, putRootRight, oneEntry, collapseBy, collapse}
+use Rattle.recording.specs.WalkSteps.{MayWalk, may-walk-on}
 use Rattle.recording.specs.Views.{Leaves, mostStruck, soughtOf, becameOf, Walks}
 
 -- whether the record starts again at the root
@@ -138,6 +139,10 @@ once-more n v r k t u w next h e = record { next = next; walks = h; struck-is = 
 pub again-next : (f n v r : ℕ) (t u z : List ℕ) (w again : code-walked.Walked) (target : Walked) → 0 < f → isAgain (becameOf (w .became)) ≡ true → Again f n v r t u w target → OnceMore n v r u z w again → Again (f - 1) n v r t z again target
 again-next f n v r t u z w next target o e h g =
     subst (λ (a : code-walked.Walked). Again (f - 1) n v r t z a target) (sym (g .is)) (again-turn f n v r (next .struck) t u z w (g .next) target o e h (g .walks) (g .struck-is))
+
+-- and again
+pub may-walk-again : (n v r : ℕ) (t u q : List ℕ) (w more : code-walked.Walked) → MayWalk t q (w .sought .place) → OnceMore n v r t u w more → MayWalk u q (more .sought .place)
+may-walk-again n v r t u q w more m g = subst (λ (a : code-walked.Walked). MayWalk u q (a .sought .place)) (sym (g .is)) (may-walk-on n v r t u q (w .sought) (g .next) m (g .walks))
 
 -- a table with its root
 pub record Roots (before after : List ℕ) (root : ℕ) (x : Rooted) : Type 0 where

@@ -6,12 +6,12 @@ use mathlib.Core.Path.{_≡_, refl, sym, ap, _∙_}
 use mathlib.Core.Logic.{⊎-elim}
 use native.Mathlib.Omega.{arith}
 use Rattle.ground.specs.Tests.{below-or-not}
-use lib.ListN.{length, take, set, length-take, List·getD-eq-default}
-use lib.Seq.{set-out}
+use lib.ListN.{length, getD, take, set, length-take, length-set, List·getD-eq-default}
+use lib.Seq.{set-out, getD-take}
 use Rattle.pages.specs.Facts.{in-table}
 use Rattle.pages.specs.GatherLaws.{emptySummary, summary-none}
-use Rattle.pages.specs.Layout.{pageEntries, pagesIn, tableFits, pageAt, putPage, pagesOf, freePage}
-use Rattle.pages.specs.LayoutLaws.{put-length, page-eight, put-pages, pages-at, pages-length, fits-alike}
+use Rattle.pages.specs.Layout.{pageEntries, pagesIn, tableFits, pageAt, entryIn, zeroEntry, putPage, withEntry, pagesOf, freePage}
+use Rattle.pages.specs.LayoutLaws.{entry-in, put-length, page-eight, put-pages, pages-at, pages-length, fits-alike}
 use Rattle.pages.specs.Summary.{inUse, summaryOf}
 use Rattle.pages.specs.declared.Entry.{Entry}
 use Rattle.pages.specs.declared.Page.{Page}
@@ -59,3 +59,36 @@ pub loaded-eight : (t : List ℕ) (p : ℕ) (x : Page) → x ≡ page (pagesOf t
 loaded-eight t p x e =
     ap (λ (y : Page). length (y .entries)) e
     ∙ ⊎-elim (λ (h : p < pagesIn t). ap (λ (y : Page). length (y .entries)) (pages-at t p h) ∙ page-eight t p) (λ (h : pagesIn t ≤ p). ap (λ (y : Page). length (y .entries)) (sym (load-out t p freePage h refl))) (below-or-not p (pagesIn t))
+
+-- how many entries of page p are in use, and that there is such a page if some are
+pub record UsedAt (t : List ℕ) (p r : ℕ) : Type 0 where
+  pub is : r ≡ length (inUse (page (pagesOf t) p))
+  pub most : r ≤ pageEntries
+  pub inside : 0 < r → p < pagesIn t
+
+pub used-in : (t : List ℕ) (p r : ℕ) → p < pagesIn t → r ≡ length (inUse (pageAt t p)) → UsedAt t p r
+used-in t p r h e =
+    let s : r ≡ length (inUse (page (pagesOf t) p)) = e ∙ ap (λ (y : Page). length (inUse y)) (sym (pages-at t p h)) in
+    record { is = s; most = omega (arith, used-most (pageAt t p) (page-eight t p)); inside = λ k. h }
+
+pub used-out : (t : List ℕ) (p : ℕ) → pagesIn t ≤ p → UsedAt t p 0
+used-out t p h =
+    record { is = ap (λ (y : Page). length (inUse y)) (load-out t p freePage h refl); most = omega arith; inside = λ k. absurd (omega arith) }
+
+pub child-past : (t : List ℕ) (p i n : ℕ) → UsedAt t p n → n ≤ i → 0 ≡ getD (inUse (page (pagesOf t) p)) i zeroEntry .child
+child-past t p i n u h = sym (ap (λ (y : Entry). y .child) (List·getD-eq-default (inUse (page (pagesOf t) p)) zeroEntry {n = i} (omega (arith, u .is))))
+
+-- an entry in use, where it lies
+pub entry-lying : (t : List ℕ) (p i n : ℕ) → UsedAt t p n → i < n → entryIn t p i ≡ getD (inUse (page (pagesOf t) p)) i zeroEntry
+entry-lying t p i n u h =
+    let x = page (pagesOf t) p in
+    let l : i < length (inUse x) = omega (arith, u .is) in
+    sym (entry-in t p i (omega (arith, u .most)))
+    ∙ ap (λ (y : Page). getD (y .entries) i zeroEntry) (sym (pages-at t p (u .inside (omega arith))))
+    ∙ sym (getD-take (x .count) (x .entries) i zeroEntry (omega (arith, length-take (x .count) (x .entries))))
+
+pub put-in : (t u : List ℕ) (p n i : ℕ) (e : Entry) → tableFits t ≡ true → p < pagesIn t → u ≡ putPage t p (withEntry (pageAt t p) n i e) → Leaves t u (set (pagesOf t) p (withEntry (page (pagesOf t) p) n i e))
+put-in t u p n i e f h d =
+    let k = pages-at t p h in
+    let l = store-in t u p (withEntry (pageAt t p) n i e) f h (length-set (pageAt t p .entries) i e ∙ page-eight t p) d in
+    record { same-length = l .same-length; pages-are = l .pages-are ∙ ap (λ (y : Page). set (pagesOf t) p (withEntry y n i e)) (sym k) }

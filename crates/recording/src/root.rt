@@ -23,6 +23,9 @@ ghost use Rattle.pages.specs.Layout.{tableFits, pagesOf, freePage};
 ghost use Rattle.wellformed.specs.WellFormed.{page};
 ghost use Rattle.recording.specs.Recording.{leafEntry, fromRoot, newRootAt, putRootRight, oneEntry, collapse};
 ghost use Rattle.pages.specs.Free.{lowestFree};
+ghost use Rattle.recording.specs.LookSteps.{Within};
+ghost use Rattle.recording.specs.TidyLaws.{Tidied};
+ghost use Rattle.recording.specs.WalkSteps.{MayWalk};
 ghost use Rattle.recording.specs.RootSteps.{isAgain, OnceMore, Roots, RootsIf, LevelFits, Above};
 ghost use Rattle.recording.specs.Views.{Leaves, soughtOf, becameOf, Walks};
 
@@ -38,11 +41,11 @@ fn is_again(o: Became) -> bool
 }
 
 // One more walk, with the box as already cut.
-fn once_more(t: &mut [u16], n: usize, v: u16, root: usize, w: Walked) -> Walked
-    requires { ⌜ tableFits (now t) ≡ true ⌝ }
+fn once_more(t: &mut [u16], n: usize, v: u16, root: usize, w: Walked, q: &[u16; 32]) -> Walked
+    requires { ⌜ MayWalk (now t) (now q) (w .sought .place) ⌝ }
     ensures { λ r. ⌜ OnceMore n v root (now (t .entry)) (now (t .exit)) w r ⌝ }
 {
-    let next = walk_down(t, n, v, root, w.sought);
+    let next = walk_down(t, n, v, root, w.sought, q);
     let became = next.became;
     let sought = next.sought;
     Walked {
@@ -54,17 +57,18 @@ fn once_more(t: &mut [u16], n: usize, v: u16, root: usize, w: Walked) -> Walked
 
 // Each time that the record starts again a page was freed, so as many times as there are pages suffice.
 pub fn from_root(t: &mut [u16], n: usize, v: u16, root: usize, s: Sought) -> Walked
-    requires { ⌜ tableFits (now t) ≡ true ⌝ }
+    requires { ⌜ (tableFits (now t) ≡ true) × Tidied (pagesOf (now t)) × Within (s .place) (s .place) ⌝ }
     ensures { λ r. ⌜ Walks (now (t .entry)) (now (t .exit)) r (fromRoot (length (pagesOf (now (t .entry)))) n v (pagesOf (now (t .entry))) root (soughtOf s)) ⌝ }
 {
     let mut fuel = t.len() / Page::WORDS;
-    let mut w = walk_down(t, n, v, root, s);
+    let q = sieve::sieve_of(s.place);
+    let mut w = walk_down(t, n, v, root, s, &q);
     while fuel > 0 {
         let became = w.became;
         if !is_again(became) {
             return w;
         }
-        w = once_more(t, n, v, root, w);
+        w = once_more(t, n, v, root, w, &q);
         fuel -= 1;
     }
     w

@@ -4,11 +4,14 @@ use crate::page::push;
 use crate::page::put;
 use crate::page::take_out;
 use crate::page::tidy;
+use crate::table::child_lying;
 use crate::table::load;
+use crate::table::put_at;
 use crate::table::release;
 use crate::table::store;
 use crate::table::summary;
 use crate::table::used;
+use crate::table::used_at;
 use pages::Entry;
 use pages::FreePage;
 use pages::Page;
@@ -16,22 +19,16 @@ ghost use mathlib.Core.Bool.{true};
 ghost use mathlib.Core.List.{[], _∷_, _++_};
 ghost use mathlib.Core.Path.{_≡_};
 ghost use Prim.Native.Nat.{_≤_};
-ghost use lib.ListN.{getD};
+ghost use lib.ListN.{getD, set};
 ghost use Rattle.pages.specs.Layout.{pageEntries, tableFits, pagesOf, zeroEntry};
 ghost use Rattle.pages.specs.Summary.{inUse};
 ghost use Rattle.wellformed.specs.WellFormed.{page};
 ghost use Rattle.recording.specs.PageSteps.{Tidy};
 ghost use Rattle.recording.specs.Recording.{exactAt};
+ghost use Rattle.recording.specs.LyingSteps.{exactPage, settledAt};
 ghost use Rattle.recording.specs.SettleSteps.{Settles, settled, cameBack};
-ghost use Rattle.recording.specs.Views.{becameOf};
-
-fn settle(t: &mut [u16], p: usize, x: Page) -> Became
-    requires { ⌜ (tableFits (now t) ≡ true) × Tidy x (x .level) (inUse x) ⌝ }
-    ensures { λ r. ⌜ Settles (now (t .entry)) (now (t .exit)) r (settled (pagesOf (now (t .entry))) p (x .level) (inUse x)) ⌝ }
-{
-    store(t, p, x);
-    Became::Stands
-}
+ghost use Rattle.recording.specs.TidyLaws.{TidyPage};
+ghost use Rattle.recording.specs.Views.{Leaves, becameOf};
 
 // The first group stays in the page, the second takes the lowest free page.
 fn split_page(t: &mut [u16], p: usize, x: Page, e: Entry) -> Became
@@ -83,19 +80,45 @@ fn exact_page(t: &[u16], p: usize, i: usize) -> Page
     put(x, i, summary(t, child))
 }
 
+// The same where the page lies.
+fn make_exact(t: &mut [u16], p: usize, i: usize)
+    requires { ⌜ (tableFits (now t) ≡ true) × TidyPage (page (pagesOf (now t)) p) ⌝ }
+    ensures { λ r. ⌜ Leaves (now (t .entry)) (now (t .exit)) (set (pagesOf (now (t .entry))) p (exactPage (pagesOf (now (t .entry))) p i)) ⌝ }
+{
+    let n = used_at(t, p);
+    if i < n {
+        let e = summary(t, child_lying(t, p, i));
+        put_at(t, p, i, e, n as u16);
+    }
+}
+
+// With one entry more, where the page lies.
+pub fn append_at(t: &mut [u16], p: usize, e: Entry) -> Became
+    requires { ⌜ (tableFits (now t) ≡ true) × TidyPage (page (pagesOf (now t)) p) ⌝ }
+    ensures { λ r. ⌜ Settles (now (t .entry)) (now (t .exit)) r (settledAt (pagesOf (now (t .entry))) p e) ⌝ }
+{
+    let n = used_at(t, p);
+    if n < Page::ENTRIES {
+        put_at(t, p, n, e, n as u16 + 1);
+        return Became::Stands;
+    }
+    split_page(t, p, load(t, p), e)
+}
+
 // Coming back to page p from the child at place i, of which this became.
 pub fn come_back(t: &mut [u16], p: usize, i: usize, child: Became) -> Became
-    requires { ⌜ tableFits (now t) ≡ true ⌝ }
+    requires { ⌜ (tableFits (now t) ≡ true) × TidyPage (page (pagesOf (now t)) p) ⌝ }
     ensures { λ r. ⌜ Settles (now (t .entry)) (now (t .exit)) r (cameBack (becameOf child) (pagesOf (now (t .entry))) p i) ⌝ }
 {
     match child {
         Became::Stands => {
-            let x = exact_page(t, p, i);
-            settle(t, p, x)
+            make_exact(t, p, i);
+            Became::Stands
         }
         Became::Split(q) => {
-            let x = exact_page(t, p, i);
-            settle_with(t, p, x, summary(t, q))
+            let e = summary(t, q);
+            make_exact(t, p, i);
+            append_at(t, p, e)
         }
         Became::Emptied => {
             let x = load(t, p);

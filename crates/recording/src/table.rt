@@ -7,11 +7,12 @@ ghost use mathlib.Core.Bool.{true};
 ghost use mathlib.Core.List.{map};
 ghost use mathlib.Core.Path.{_≡_};
 ghost use Prim.Native.Nat.{_≤_, _<_};
-ghost use lib.ListN.{length, set};
+ghost use lib.ListN.{length, getD, set};
 ghost use Rattle.pages.specs.GatherLaws.{emptySummary};
-ghost use Rattle.pages.specs.Layout.{pageEntries, tableFits, pagesOf, zeroEntry, freePage};
+ghost use Rattle.pages.specs.Layout.{pageEntries, tableFits, pagesOf, zeroEntry, freePage, withEntry};
 ghost use Rattle.pages.specs.Summary.{inUse, summaryOf};
 ghost use Rattle.wellformed.specs.WellFormed.{page, childOf};
+ghost use Rattle.recording.specs.TableSteps.{UsedAt};
 ghost use Rattle.recording.specs.Views.{Leaves};
 
 pub fn zero_entry() -> Entry
@@ -92,4 +93,36 @@ pub fn used(x: Page) -> usize
 {
     let n = x.count as usize;
     if n <= Page::ENTRIES { n } else { Page::ENTRIES }
+}
+
+// How many entries of page p are in use, where it lies.
+pub fn used_at(t: &[u16], p: usize) -> usize
+    requires { ⌜ tableFits (now t) ≡ true ⌝ }
+    ensures { λ r. ⌜ UsedAt (now (t .entry)) p r ⌝ }
+{
+    if p < t.len() / Page::WORDS {
+        return pages::in_use(t, p);
+    }
+    0
+}
+
+// The child at a place of page p; 0 if it has no such place.
+pub fn child_lying(t: &[u16], p: usize, i: usize) -> u16
+    requires { ⌜ tableFits (now t) ≡ true ⌝ }
+    ensures { λ r. ⌜ r ≡ getD (inUse (page (pagesOf (now (t .entry))) p)) i zeroEntry .child ⌝ }
+{
+    if used_at(t, p) <= i {
+        return 0;
+    }
+    pages::entry_child(t, p, i)
+}
+
+// Another entry at place i of page p, with its count.
+pub fn put_at(t: &mut [u16], p: usize, i: usize, e: Entry, n: u16)
+    requires { ⌜ (tableFits (now t) ≡ true) × (i < pageEntries) ⌝ }
+    ensures { λ r. ⌜ Leaves (now (t .entry)) (now (t .exit)) (set (pagesOf (now (t .entry))) p (withEntry (page (pagesOf (now (t .entry))) p) n i e)) ⌝ }
+{
+    if p < t.len() / Page::WORDS {
+        pages::put_entry(t, p, i, e, n);
+    }
 }

@@ -1,5 +1,5 @@
 -- `recording::sound::recorded` meets its contract.
-use Rattle.recording.specs.CallSteps.{answered-so}
+use Rattle.recording.specs.CallSteps.{answered-so, may-walk-from-root}
 use Rattle.recording.specs.RecordSteps.{all-recorded, from-handed-in}
 use Rattle.recording.specs.RefusalSteps.{sound-small}
 use Rattle.recording.specs.TableSteps.{still-fits}
@@ -25,7 +25,7 @@ handed-in-requires : tie.Need-handed-in-requires
 handed-in-requires c κs = tt
 
 from-root-requires : tie.Need-from-root-requires
-from-root-requires c κs = search needs
+from-root-requires c κs = may-walk-from-root (c .before .before .before .before .before .args .t .now) (c .before .before .before .before .before .args .s) (c .before .before .before .before .before .args .b) (c .before .before .before .before .before .args .v) (c .handed-in .result) (c .before .before .before .before .before .pre) (c .handed-in .ensures)
 
 put-root-right-requires : tie.Need-put-root-right-requires
 put-root-right-requires c κs = still-fits (c .before .before .before .before .before .before .before .before .before .before .args .t .now) (c .before .before .before .before .from-root .last .0) (c .before .before .before .before .before .before .before .before .before .before .pre .fits) (c .before .before .before .before .from-root .ensures .same-length)

@@ -1,6 +1,5 @@
 -- `recording::walk::+walk_down` meets its contract.
-use Rattle.recording.specs.WalkSteps.{walked-here, walked-back}
-use Rattle.recording.specs.TableSteps.{still-fits}
+use Rattle.recording.specs.WalkSteps.{may-go-down, may-come-back, walked-here, walked-back}
 use mathlib.Core.Path.{_∙_}
 use borrow.Author.Needs.{needs}
 use native.Mathlib.Omega.{arith}
@@ -16,15 +15,15 @@ use Rattle.recording.proofs.walk.at_page.Reads as at-page-reads
 use Rattle.recording.proofs.walk.+walk_down.{statement}
 use Rattle.recording.proofs.walk.+walk_down.Tie.{close}
 
-abbrev μ-walk-down : Measures 1 walk-down-kinds.ps ℕ
+abbrev μ-walk-down : Measures 2 walk-down-kinds.ps ℕ
 μ-walk-down κs a = a .1 .0
 
-abbrev walk-down-at : ℕ → In 1 walk-down-kinds.ps
-walk-down-at t = and 1 walk-down-kinds.ps (is 1 walk-down-kinds.ps μ-walk-down t) walk-down.Pre
+abbrev walk-down-at : ℕ → In 2 walk-down-kinds.ps
+walk-down-at t = and 2 walk-down-kinds.ps (is 2 walk-down-kinds.ps μ-walk-down t) walk-down.Pre
 
-abbrev walk-down-below : ℕ → In 1 walk-down-kinds.ps
+abbrev walk-down-below : ℕ → In 2 walk-down-kinds.ps
 walk-down-below t =
-    and 1 walk-down-kinds.ps (falls 1 walk-down-kinds.ps _<_ μ-walk-down t) walk-down.Pre
+    and 2 walk-down-kinds.ps (falls 2 walk-down-kinds.ps _<_ μ-walk-down t) walk-down.Pre
 
 walk-down-at-page-requires : (t : ℕ) → walk-down-lts.Need-at-page-requires (
   at-page-reads.Asked,
@@ -96,7 +95,7 @@ walk-down-walk-down-requires : (t : ℕ) → walk-down-lts.Need-walk-down-requir
   more-struck-reads.Asked,
   more-struck-reads.Learnt,
 ) (walk-down-at t) walk-down.Post
-walk-down-walk-down-requires t c κs = (omega (arith, c .before .before .before .before .before .before .before .before .before .before .pre .0, c .before .before .before .before .before .before .before .at-page .ensures .falls _ _ (c .before .before .next2 .given .1)), still-fits (c .before .before .before .before .before .before .before .before .before .before .args .t .now) (c .before .before .before .before .before .before .before .at-page .last .0) (c .before .before .before .before .before .before .before .before .before .before .pre .1) (c .before .before .before .before .before .before .before .at-page .ensures .same-length))
+walk-down-walk-down-requires t c κs = (omega (arith, c .before .before .before .before .before .before .before .before .before .before .pre .0, c .before .before .before .before .before .before .before .at-page .ensures .falls _ _ (c .before .before .next2 .given .1)), may-go-down (c .before .before .before .before .before .before .before .before .before .before .args .n) (c .before .before .before .before .before .before .before .before .before .before .args .v) (c .before .before .before .before .before .before .before .before .before .before .args .p) (c .before .before .before .before .before .before .before .before .before .before .args .t .now) (c .before .before .before .before .before .before .before .at-page .last .0) (c .before .before .before .before .before .before .before .before .before .before .args .q .now) (c .before .before .before .before .before .before .before .before .before .before .args .s) (c .before .before .before .before .before .before .before .at-page .result) (c .before .before .before .before .before .before .before .before .before .before .pre .1) (c .before .before .before .before .before .before .before .at-page .ensures))
 
 walk-down-come-back-requires : (t : ℕ) → walk-down-lts.Need-come-back-requires (
   at-page-reads.Asked,
@@ -108,7 +107,7 @@ walk-down-come-back-requires : (t : ℕ) → walk-down-lts.Need-come-back-requir
   more-struck-reads.Asked,
   more-struck-reads.Learnt,
 ) (walk-down-at t) walk-down.Post
-walk-down-come-back-requires t c κs = still-fits (c .before .before .before .before .before .before .before .before .before .before .before .at-page .last .0) (c .before .before .before .walk-down .last .0) (still-fits (c .before .before .before .before .before .before .before .before .before .before .before .before .before .before .args .t .now) (c .before .before .before .before .before .before .before .before .before .before .before .at-page .last .0) (c .before .before .before .before .before .before .before .before .before .before .before .before .before .before .pre .1) (c .before .before .before .before .before .before .before .before .before .before .before .at-page .ensures .same-length)) (c .before .before .before .walk-down .ensures .same-length)
+walk-down-come-back-requires t c κs = may-come-back _ _ _ (c .before .before .before .before .before .before .before .before .before .before .before .before .before .before .args .p) (c .before .before .before .before .before .before .before .before .before .before .before .at-page .last .0) (c .before .before .before .walk-down .last .0) (c .before .before .before .before .before .before .before .before .before .before .before .before .before .before .args .q .now) _ (c .before .before .before .walk-down .result) (may-go-down (c .before .before .before .before .before .before .before .before .before .before .before .before .before .before .args .n) (c .before .before .before .before .before .before .before .before .before .before .before .before .before .before .args .v) (c .before .before .before .before .before .before .before .before .before .before .before .before .before .before .args .p) (c .before .before .before .before .before .before .before .before .before .before .before .before .before .before .args .t .now) (c .before .before .before .before .before .before .before .before .before .before .before .at-page .last .0) (c .before .before .before .before .before .before .before .before .before .before .before .before .before .before .args .q .now) (c .before .before .before .before .before .before .before .before .before .before .before .before .before .before .args .s) (c .before .before .before .before .before .before .before .before .before .before .before .at-page .result) (c .before .before .before .before .before .before .before .before .before .before .before .before .before .before .pre .1) (c .before .before .before .before .before .before .before .before .before .before .before .at-page .ensures)) (c .before .before .before .walk-down .ensures)
 
 walk-down-more-struck-requires : (t : ℕ) → walk-down-lts.Need-more-struck-requires (
   at-page-reads.Asked,
