@@ -47,3 +47,4 @@ pub mod RootSteps
 pub mod RecordSteps
 pub mod RefusalSteps
 pub mod CallSteps
+pub mod LookSteps

@@ -8,6 +8,8 @@ ghost use mathlib.Core.Path.{_≡_};
 ghost use lib.ListN.{length};
 ghost use Rattle.split.specs.Split.{lessOrTie};
 ghost use lib.Dec.{ltb};
+ghost use Rattle.pages.specs.Facts.{InTable};
+ghost use Rattle.pages.specs.Layout.{pageAt};
 ghost use Rattle.pages.specs.Summary.{inUse};
 ghost use Rattle.recording.specs.Recording.{choose};
 ghost use Rattle.recording.specs.ChooseSteps.{choiceOf};
@@ -57,6 +59,24 @@ pub fn choose(b: Box, x: Page) -> usize
     while i < count {
         let e = x.entries[i];
         best = best.or_later(Choice::of(b, e, i as u64));
+        i += 1;
+    }
+    best.at as usize
+}
+
+// The same of page p, where its entries lie.
+pub fn choose_at(t: &[u16], p: usize, b: Box) -> usize
+    requires { ⌜ InTable (now t) p ⌝ }
+    ensures { λ r. ⌜ r ≡ choose b (inUse (pageAt (now (t .entry)) p)) ⌝ }
+{
+    let count = pages::in_use(t, p);
+    if count == 0 {
+        return 0;
+    }
+    let mut best = Choice::of(b, pages::read_entry(t, p, 0), 0);
+    let mut i = 1;
+    while i < count {
+        best = best.or_later(Choice::of(b, pages::read_entry(t, p, i), i as u64));
         i += 1;
     }
     best.at as usize

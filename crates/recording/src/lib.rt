@@ -3,6 +3,7 @@
 
 mod call;
 mod choose;
+mod look;
 mod page;
 mod refusal;
 mod root;

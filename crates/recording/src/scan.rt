@@ -43,7 +43,7 @@ impl Sought {
     }
 
     // A box that is a candidate only if its gust reaches. Covered ends the walk: no later candidate is met.
-    fn candidate(self, reaches: bool, x: Box) -> Sought
+    pub fn candidate(self, reaches: bool, x: Box) -> Sought
         ensures { λ r. ⌜ soughtOf r ≡ candidate reaches x (soughtOf self) ⌝ }
     {
         if self.covered {
