@@ -7,7 +7,7 @@ ghost use mathlib.Core.Bool.{true};
 ghost use mathlib.Core.List.{map};
 ghost use mathlib.Core.Path.{_≡_};
 ghost use Prim.Native.Nat.{_≤_, _<_};
-ghost use lib.ListN.{length, set};
+ghost use lib.ListN.{length, getD, set};
 ghost use Rattle.pages.specs.GatherLaws.{emptySummary};
 ghost use Rattle.pages.specs.Layout.{pageEntries, tableFits, pagesOf, zeroEntry, freePage};
 ghost use Rattle.pages.specs.Summary.{inUse, summaryOf};
@@ -84,6 +84,40 @@ pub fn summary(t: &[u16], p: u16) -> Entry
     let mut none = zero_entry();
     none.child = p;
     none
+}
+
+// What the root is asked for, where it lies: its level, its count and its first child.
+pub fn level_of(t: &[u16], p: u16) -> u16
+    requires { ⌜ tableFits (now t) ≡ true ⌝ }
+    ensures { λ r. ⌜ r ≡ page (pagesOf (now (t .entry))) p .level ⌝ }
+{
+    let at = p as usize;
+    if at < t.len() / Page::WORDS {
+        return pages::level(t, at);
+    }
+    0
+}
+
+pub fn count_of(t: &[u16], p: u16) -> u16
+    requires { ⌜ tableFits (now t) ≡ true ⌝ }
+    ensures { λ r. ⌜ r ≡ page (pagesOf (now (t .entry))) p .count ⌝ }
+{
+    let at = p as usize;
+    if at < t.len() / Page::WORDS {
+        return pages::count(t, at);
+    }
+    0
+}
+
+pub fn first_child(t: &[u16], p: u16) -> u16
+    requires { ⌜ tableFits (now t) ≡ true ⌝ }
+    ensures { λ r. ⌜ r ≡ getD (page (pagesOf (now (t .entry))) p .entries) 0 zeroEntry .child ⌝ }
+{
+    let at = p as usize;
+    if at < t.len() / Page::WORDS {
+        return pages::entry_child(t, at, 0);
+    }
+    0
 }
 
 // How many entries of a page by value are in use.
