@@ -1,6 +1,6 @@
 //! Times the proved functions beside the second program's, in one run, as ratios.
-use bench::{book, proved, question, Seed, SPARSE};
-use second::{ask, well_formed, GustBox};
+use bench::{a_record, book, proved, question, record_in_second, Seed, Spread, DENSE, SPARSE};
+use second::{ask, record, well_formed, GustBox, SmallRecord, PAGE_WORDS};
 use std::hint::black_box;
 use std::time::Instant;
 
@@ -24,6 +24,88 @@ fn row(name: &str, pages: usize, per: usize, unit: &str, (ours, theirs): (f64, f
         "{name:<34} {pages:>6} {a:>10.3} {b:>10.3} {:>8.2}   {unit}",
         a / b
     );
+}
+
+type Book = (Vec<u16>, SmallRecord);
+type Record = ([u16; 6], u16);
+
+/// The same for records: several runs of them, each from the same book, so that no processor learns them by heart.
+fn beside_in(
+    start: &Book,
+    runs: &[Vec<Record>],
+    ours: impl Fn(&mut Book, Record),
+    theirs: impl Fn(&mut Book, Record),
+) -> (f64, f64) {
+    let mut work = start.clone();
+    let mut round = |one: &dyn Fn(&mut Book, Record)| {
+        let mut spent = 0;
+        for records in runs {
+            work.0.copy_from_slice(&start.0);
+            work.1 = start.1;
+            let clock = Instant::now();
+            records.iter().for_each(|new| one(&mut work, *new));
+            spent += clock.elapsed().as_nanos();
+        }
+        spent as f64 / runs.len() as f64
+    };
+    let mut best = (f64::MAX, f64::MAX);
+    for _ in 0..15 {
+        best.0 = best.0.min(round(&ours));
+        best.1 = best.1.min(round(&theirs));
+    }
+    best
+}
+
+/// A book with about so many free pages left.
+fn filled_to(pages: usize, free: usize, spread: &Spread, seed: &mut Seed) -> Book {
+    let (mut table, mut small) = book(pages, 0, spread, seed);
+    let left = |table: &[u16]| {
+        let levels = table.iter().step_by(PAGE_WORDS);
+        levels.filter(|level| **level == 0).count()
+    };
+    while left(&table) > free {
+        for _ in 0..5 {
+            record_in_second(&mut table, &mut small, a_record(spread, seed))
+                .expect("there is room");
+        }
+    }
+    (table, small)
+}
+
+/// The walk alone, and recording with all its tests, in books half full and nearly full.
+fn recording_rows(pages: usize, name: &str, spread: &Spread, seed: &mut Seed) {
+    let many = 40;
+    for (part, free) in [("half", pages / 2), ("nearly", 40)] {
+        let start = filled_to(pages, free, spread, seed);
+        let a_run = |_| (0..many).map(|_| a_record(spread, seed)).collect();
+        let runs: Vec<Vec<Record>> = (0..20).map(a_run).collect();
+        let walk = beside_in(
+            &start,
+            &runs,
+            |(t, s), (q, v)| {
+                // SAFETY: the book is well-formed, and has room for a run, as the second program finds.
+                let _ = black_box(unsafe { proved::recorded(t, s, q, v) });
+            },
+            |(t, s), new| {
+                let _ = black_box(record_in_second(t, s, new).expect("there is room"));
+            },
+        );
+        let what = format!("walk, {name}, {part} full");
+        row(&what, pages, many, "ns a record", walk);
+        let call = beside_in(
+            &start,
+            &runs[..400 / pages + 1],
+            |(t, s), (q, v)| {
+                let _ = black_box(proved::record(t, s, q, v).expect("there is room"));
+            },
+            |(t, s), (q, v)| {
+                let place = GustBox::from(q.map(u32::from));
+                let _ = black_box(record(t, s, place, u32::from(v)).expect("there is room"));
+            },
+        );
+        let what = format!("record, {name}, {part} full");
+        row(&what, pages, many, "ns a record", call);
+    }
 }
 
 /// The plain loop that images are held against.
@@ -126,5 +208,9 @@ fn main() {
                 both,
             );
         }
+    }
+    for pages in [180, 4_096] {
+        recording_rows(pages, "sparse", &SPARSE, &mut seed);
+        recording_rows(pages, "dense", &DENSE, &mut seed);
     }
 }

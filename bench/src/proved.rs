@@ -1,5 +1,5 @@
 //! The proved functions, behind safe Rust. Their declarations mirror crates/probe/src/lib.rt.
-use second::SmallRecord;
+use second::{Recorded, SmallRecord, Verdict};
 
 extern "C" {
     fn gust_probe_check(
@@ -35,6 +35,30 @@ extern "C" {
         n1: u16,
         d0: u16,
         d1: u16,
+    ) -> u64;
+    fn gust_probe_record(
+        t: *mut u16,
+        n: usize,
+        small: *mut [u32; 5],
+        e0: u16,
+        e1: u16,
+        n0: u16,
+        n1: u16,
+        d0: u16,
+        d1: u16,
+        gust: u16,
+    ) -> u64;
+    fn gust_probe_recorded(
+        t: *mut u16,
+        n: usize,
+        small: *mut [u32; 5],
+        e0: u16,
+        e1: u16,
+        n0: u16,
+        n1: u16,
+        d0: u16,
+        d1: u16,
+        gust: u16,
     ) -> u64;
 }
 
@@ -103,4 +127,78 @@ pub fn ask(table: &[u16], s: &SmallRecord, q: [u16; 6]) -> Result<(Option<u32>, 
     }
     let best = (said >> 8 & 0xff_ffff) as u32;
     Ok((best.checked_sub(1), (said >> 32) as u32))
+}
+
+fn numbers(s: &SmallRecord) -> [u32; 5] {
+    [s.root, s.height, s.accepted, s.struck, s.covered]
+}
+
+fn put_numbers(s: &mut SmallRecord, [root, height, accepted, struck, covered]: [u32; 5]) {
+    *s = SmallRecord {
+        root,
+        height,
+        accepted,
+        struck,
+        covered,
+    };
+}
+
+/// The answer to a record, or the refusal's number.
+fn unpacked(said: u64) -> Result<Recorded, u32> {
+    let verdict = match said >> 8 & 255 {
+        1 => Verdict::Kept,
+        2 => Verdict::Cut,
+        3 => Verdict::Covered,
+        _ => return Err((said & 255) as u32),
+    };
+    Ok(Recorded {
+        verdict,
+        struck: (said >> 32) as u32,
+    })
+}
+
+/// Records a gust over a box, after every test that document 01 asks for.
+pub fn record(t: &mut [u16], s: &mut SmallRecord, q: [u16; 6], gust: u16) -> Result<Recorded, u32> {
+    let [e0, e1, n0, n1, d0, d1] = q;
+    let mut five = numbers(s);
+    // SAFETY: as above; the five numbers are lent for the call.
+    let said = unsafe {
+        gust_probe_record(
+            t.as_mut_ptr(),
+            t.len(),
+            &mut five,
+            e0,
+            e1,
+            n0,
+            n1,
+            d0,
+            d1,
+            gust,
+        )
+    };
+    put_numbers(s, five);
+    unpacked(said)
+}
+
+/// The walk alone, with no test.
+///
+/// # Safety
+/// The book is well-formed, the box and the gust are legal, and the record would not be refused.
+pub unsafe fn recorded(t: &mut [u16], s: &mut SmallRecord, q: [u16; 6], gust: u16) -> Recorded {
+    let [e0, e1, n0, n1, d0, d1] = q;
+    let mut five = numbers(s);
+    let said = gust_probe_recorded(
+        t.as_mut_ptr(),
+        t.len(),
+        &mut five,
+        e0,
+        e1,
+        n0,
+        n1,
+        d0,
+        d1,
+        gust,
+    );
+    put_numbers(s, five);
+    unpacked(said).expect("the walk answers")
 }

@@ -5,9 +5,13 @@ use ground::Range;
 use image::Trailer;
 use pages::Page;
 use pages::Small;
+use recording::Outcome;
+use recording::Reply;
 use wellformed::Checked;
 ghost use mathlib.Core.Path.{_≡_};
-ghost use Rattle.probe.specs.Probe.{checkedNumber, askedNumber, packed};
+ghost use Prim.Native.Nat.{_≤_};
+ghost use Rattle.recording.specs.RecordSteps.{SoundSmall};
+ghost use Rattle.probe.specs.Probe.{checkedNumber, askedNumber, packed, smallOf};
 
 // 0 for a damaged book, else the number of held records and one more.
 #[no_mangle]
@@ -131,4 +135,110 @@ pub extern "C" fn gust_probe_ask(
         high: day_high,
     };
     pack(asking::ask(table, small, Box { east, north, day }))
+}
+
+fn outcome_number(o: Outcome) -> u64
+    ensures { λ r. ⌜ r ≤ 3 ⌝ }
+{
+    match o {
+        Outcome::Kept => 1,
+        Outcome::Cut => 2,
+        Outcome::Covered => 3,
+    }
+}
+
+// A record's answer in one number: 1 for Kept, 2 for Cut, 3 for Covered from bit 8 on, then the struck count from bit 32 on.
+fn pack_answer(o: Outcome, struck: u32) -> u64 {
+    outcome_number(o) * 256 + struck as u64 * 4294967296
+}
+
+// The refusal, or the answer.
+fn pack_reply(r: Reply) -> u64 {
+    match r {
+        Reply::Refused(number) => number as u64,
+        Reply::Says(outcome, struck) => pack_answer(outcome, struck),
+    }
+}
+
+fn small_of(numbers: &[u32; 5]) -> Small
+    ensures { λ r. ⌜ r ≡ smallOf (now (numbers .entry)) ⌝ }
+{
+    Small {
+        root: numbers[0],
+        height: numbers[1],
+        accepted: numbers[2],
+        struck: numbers[3],
+        covered: numbers[4],
+    }
+}
+
+fn put_small(numbers: &mut [u32; 5], s: Small) {
+    numbers[0] = s.root;
+    numbers[1] = s.height;
+    numbers[2] = s.accepted;
+    numbers[3] = s.struck;
+    numbers[4] = s.covered;
+}
+
+#[no_mangle]
+pub extern "C" fn gust_probe_record(
+    table: &mut [u16],
+    numbers: &mut [u32; 5],
+    east_low: u16,
+    east_high: u16,
+    north_low: u16,
+    north_high: u16,
+    day_low: u16,
+    day_high: u16,
+    gust: u16,
+) -> u64 {
+    let east = Range {
+        low: east_low,
+        high: east_high,
+    };
+    let north = Range {
+        low: north_low,
+        high: north_high,
+    };
+    let day = Range {
+        low: day_low,
+        high: day_high,
+    };
+    let called = recording::record(table, small_of(numbers), Box { east, north, day }, gust);
+    put_small(numbers, called.small);
+    let reply = called.reply;
+    pack_reply(reply)
+}
+
+// The walk alone, for a book and a record that no test would refuse.
+#[no_mangle]
+pub extern "C" fn gust_probe_recorded(
+    table: &mut [u16],
+    numbers: &mut [u32; 5],
+    east_low: u16,
+    east_high: u16,
+    north_low: u16,
+    north_high: u16,
+    day_low: u16,
+    day_high: u16,
+    gust: u16,
+) -> u64
+    requires { ⌜ SoundSmall (now table) (smallOf (now numbers)) ⌝ }
+{
+    let east = Range {
+        low: east_low,
+        high: east_high,
+    };
+    let north = Range {
+        low: north_low,
+        high: north_high,
+    };
+    let day = Range {
+        low: day_low,
+        high: day_high,
+    };
+    let done = recording::recorded(table, small_of(numbers), Box { east, north, day }, gust);
+    put_small(numbers, done.small);
+    let outcome = done.outcome;
+    pack_answer(outcome, done.struck)
 }

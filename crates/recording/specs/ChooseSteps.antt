@@ -55,11 +55,11 @@ pub best-all : (b : Box) (es : List Entry) (i : ℕ) (best : Choice) → length 
 unfolding bestTo choose
 best-all b es i best l m h = let z : i - 1 ≡ length es - 1 = omega arith in ap (λ c. c .at) h ∙ ap (leastGrown b es) z
 
-pub grown-is : (b p j : Box) (s g : ℕ) → j ≡ join p b → s ≡ size p → g ≡ size j → s ≤ g
-grown-is b p j s g e q h = let k : g ≡ size (join p b) = h ∙ ap size e in omega (arith, grows b p)
+pub grown-is : (b p : Box) (s g : ℕ) → s ≡ size p → g ≡ size (join p b) → s ≤ g
+grown-is b p s g q h = omega (arith, grows b p)
 
-pub choice-made : (b : Box) (e : Entry) (j : Box) (i s g : ℕ) → j ≡ join (e .place) b → s ≡ size (e .place) → g ≡ size j → _≡_ {A = Choice} (record { at = i; growth = g - s; size = s }) (choiceOf b e i)
-choice-made b e j i s g p q r = choice-is b e i g s (g - s) (r ∙ ap size p) q refl
+pub choice-made : (b : Box) (e : Entry) (i s g : ℕ) → s ≡ size (e .place) → g ≡ size (join (e .place) b) → _≡_ {A = Choice} (record { at = i; growth = g - s; size = s }) (choiceOf b e i)
+choice-made b e i s g q r = choice-is b e i g s (g - s) r q refl
 
 pub choose-none : (b : Box) (es : List Entry) (n : ℕ) → n ≡ length es → n ≡ 0 → 0 ≡ choose b es
 unfolding choose leastGrown

@@ -10,8 +10,8 @@ use lib.ListN.{length, getD, take, set, length-take, length-set, List·getD-eq-d
 use lib.Seq.{set-out, getD-take}
 use Rattle.pages.specs.Facts.{in-table}
 use Rattle.pages.specs.GatherLaws.{emptySummary, summary-none}
-use Rattle.pages.specs.Layout.{pageEntries, pagesIn, tableFits, pageAt, entryIn, zeroEntry, putPage, withEntry, pagesOf, freePage}
-use Rattle.pages.specs.LayoutLaws.{entry-in, put-length, page-eight, put-pages, pages-at, pages-length, fits-alike}
+use Rattle.pages.specs.Layout.{pageEntries, pagesIn, tableFits, levelAt, countAt, pageAt, entryIn, zeroEntry, putPage, withEntry, pagesOf, freePage}
+use Rattle.pages.specs.LayoutLaws.{level-in, count-in, entry-in, put-length, page-eight, put-pages, pages-at, pages-length, fits-alike}
 use Rattle.pages.specs.Summary.{inUse, summaryOf}
 use Rattle.pages.specs.declared.Entry.{Entry}
 use Rattle.pages.specs.declared.Page.{Page}
@@ -23,6 +23,16 @@ load-in t p r h e = e ∙ sym (pages-at t p h)
 
 pub load-out : (t : List ℕ) (p : ℕ) (r : Page) → pagesIn t ≤ p → r ≡ freePage → r ≡ page (pagesOf t) p
 load-out t p r h e = e ∙ sym (List·getD-eq-default (pagesOf t) freePage {n = p} (omega (arith, pages-length t)))
+
+-- a word of a page, where it lies
+pub level-there : (t : List ℕ) (p r : ℕ) → p < pagesIn t → r ≡ levelAt t p → r ≡ page (pagesOf t) p .level
+level-there t p r h e = e ∙ sym (level-in t p) ∙ ap (λ (x : Page). x .level) (sym (pages-at t p h))
+
+pub count-there : (t : List ℕ) (p r : ℕ) → p < pagesIn t → r ≡ countAt t p → r ≡ page (pagesOf t) p .count
+count-there t p r h e = e ∙ sym (count-in t p) ∙ ap (λ (x : Page). x .count) (sym (pages-at t p h))
+
+pub child-there : (t : List ℕ) (p r : ℕ) → p < pagesIn t → r ≡ entryIn t p 0 .child → r ≡ getD (page (pagesOf t) p .entries) 0 zeroEntry .child
+child-there t p r h e = e ∙ ap (λ (x : Entry). x .child) (sym (entry-in t p 0 (omega arith))) ∙ ap (λ (x : Page). getD (x .entries) 0 zeroEntry .child) (sym (pages-at t p h))
 
 pub store-in : (t u : List ℕ) (p : ℕ) (x : Page) → tableFits t ≡ true → p < pagesIn t → length (x .entries) ≡ pageEntries → u ≡ putPage t p x → Leaves t u (set (pagesOf t) p x)
 store-in t u p x f h n e =

@@ -28,7 +28,7 @@ impl Choice {
         let size = e.place.size();
         Choice {
             at,
-            growth: e.place.join(b).size() - size,
+            growth: split::cover_size(e.place, b) - size,
             size,
         }
     }

@@ -5,6 +5,9 @@ use crate::Walked;
 use crate::page::leaf_entry;
 use crate::strike::more_struck;
 use crate::table::blank_page;
+use crate::table::count_of;
+use crate::table::first_child;
+use crate::table::level_of;
 use crate::table::load;
 use crate::table::release;
 use crate::table::store;
@@ -74,17 +77,11 @@ pub fn from_root(t: &mut [u16], n: usize, v: u16, root: usize, s: Sought) -> Wal
     w
 }
 
-fn one_entry(x: Page) -> bool
-    ensures { λ r. ⌜ r ≡ oneEntry x ⌝ }
-{
-    (2 <= x.level) & (x.count == 1)
-}
-
-fn root_page(t: &[u16], root: u16) -> Page
+fn one_entry(t: &[u16], root: u16) -> bool
     requires { ⌜ tableFits (now t) ≡ true ⌝ }
-    ensures { λ r. ⌜ r ≡ page (pagesOf (now (t .entry))) root ⌝ }
+    ensures { λ r. ⌜ r ≡ oneEntry (page (pagesOf (now (t .entry))) root) ⌝ }
 {
-    load(t, root as usize)
+    (2 <= level_of(t, root)) & (count_of(t, root) == 1)
 }
 
 fn free_root(t: &mut [u16], root: u16)
@@ -102,13 +99,12 @@ pub fn collapse(t: &mut [u16], n: usize, root: u16) -> u16
     let mut left = n;
     let mut r = root;
     while left > 0 {
-        let x = root_page(t, r);
-        if !one_entry(x) {
+        if !one_entry(t, r) {
             return r;
         }
+        let child = first_child(t, r);
         free_root(t, r);
-        let e = x.entries[0];
-        r = e.child;
+        r = child;
         left -= 1;
     }
     r

@@ -6,7 +6,7 @@ use crate::Walked;
 use crate::root::collapse;
 use crate::root::from_root;
 use crate::root::put_root_right;
-use crate::table::load;
+use crate::table::level_of;
 use ground::Box;
 use pages::Small;
 ghost use mathlib.Core.Bool.{true, cond};
@@ -44,11 +44,11 @@ fn small_after(t: &[u16], s: Small, w: Walked, root: u16) -> Small
     requires { ⌜ (tableFits (now t) ≡ true) × (s .accepted ≤ mostAccepted) × (s .struck ≤ mostAccepted) × (s .covered ≤ mostAccepted) × (w .struck ≤ mostStruck) ⌝ }
     ensures { λ r. ⌜ SmallMade (now (t .entry)) s w root r ⌝ }
 {
-    let top = load(t, root as usize);
+    let level = level_of(t, root);
     let found = w.sought;
     Small {
         root: root as u32,
-        height: top.level as u32,
+        height: level as u32,
         accepted: s.accepted + 1,
         struck: s.struck + w.struck,
         covered: s.covered + one_if(found.covered),

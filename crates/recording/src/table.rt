@@ -87,6 +87,40 @@ pub fn summary(t: &[u16], p: u16) -> Entry
     none
 }
 
+// What the root is asked for, where it lies: its level, its count and its first child.
+pub fn level_of(t: &[u16], p: u16) -> u16
+    requires { ⌜ tableFits (now t) ≡ true ⌝ }
+    ensures { λ r. ⌜ r ≡ page (pagesOf (now (t .entry))) p .level ⌝ }
+{
+    let at = p as usize;
+    if at < t.len() / Page::WORDS {
+        return pages::level(t, at);
+    }
+    0
+}
+
+pub fn count_of(t: &[u16], p: u16) -> u16
+    requires { ⌜ tableFits (now t) ≡ true ⌝ }
+    ensures { λ r. ⌜ r ≡ page (pagesOf (now (t .entry))) p .count ⌝ }
+{
+    let at = p as usize;
+    if at < t.len() / Page::WORDS {
+        return pages::count(t, at);
+    }
+    0
+}
+
+pub fn first_child(t: &[u16], p: u16) -> u16
+    requires { ⌜ tableFits (now t) ≡ true ⌝ }
+    ensures { λ r. ⌜ r ≡ getD (page (pagesOf (now (t .entry))) p .entries) 0 zeroEntry .child ⌝ }
+{
+    let at = p as usize;
+    if at < t.len() / Page::WORDS {
+        return pages::entry_child(t, at, 0);
+    }
+    0
+}
+
 // How many entries of a page by value are in use.
 pub fn used(x: Page) -> usize
     ensures { λ r. ⌜ (r ≡ length (inUse x)) × (r ≤ pageEntries) ⌝ }

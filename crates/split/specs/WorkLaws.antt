@@ -19,7 +19,7 @@ use Rattle.pages.specs.Layout as layout
 use Rattle.pages.specs.declared.Entry.{Entry}
 use Rattle.pages.specs.declared.Page.{Page}
 use Rattle.split.specs.Split.{boxAt, places, Pair, pairsWith, pairs, coverSize, bothSizes, wastesMore, mostWasteful, seeds, without, difference, growth, growthsDiffer, firstMost, next, lessOrTie, secondTakes, given, place, takes, Groups, needsAll, allToFirst, allToSecond, placeAll, begin, boxesOf, entriesAt, pageFrom, pagesFrom, halves}
-use Rattle.split.specs.Working.{mostSize, boxesIn, pairOf, Weighed, Small, groupsOf, choiceOf, chosen, Sound, Nines, putBox}
+use Rattle.split.specs.Working.{mostSize, boxesIn, pairOf, Weighed, Small, SizeAt, SizesOf, groupsOf, choiceOf, chosen, Sound, Nines, putBox}
 use Rattle.split.specs.declared.seeds.Seeds.{Seeds}
 use Rattle.split.specs.declared.placing.Sides.{Sides}
 use Rattle.split.specs.declared.filling.Halves.{Halves}
@@ -184,6 +184,26 @@ pair-weighed bs first second b o cover s t pb po pc ps pt =
       cover = pc ∙ ap₂ (λ (x y : Box). size (join x y)) pb po;
       both = ap₂ (λ (x y : ℕ). x + y) (ps ∙ ap (λ (x : Box). size x) pb) (pt ∙ ap (λ (x : Box). size x) po);
     }
+
+pub sizes-so : (bs : List Box) (n0 n1 n2 n3 n4 n5 n6 n7 n8 : ℕ) → SizeAt bs 0 n0 → SizeAt bs 1 n1 → SizeAt bs 2 n2 → SizeAt bs 3 n3 → SizeAt bs 4 n4 → SizeAt bs 5 n5 → SizeAt bs 6 n6 → SizeAt bs 7 n7 → SizeAt bs 8 n8 → SizesOf bs (n0 ∷ n1 ∷ n2 ∷ n3 ∷ n4 ∷ n5 ∷ n6 ∷ n7 ∷ n8 ∷ [])
+sizes-so bs n0 n1 n2 n3 n4 n5 n6 n7 n8 h0 h1 h2 h3 h4 h5 h6 h7 h8 = record { each = at }
+  where
+    at : (i : ℕ) → i < 9 → SizeAt bs i (getD (n0 ∷ n1 ∷ n2 ∷ n3 ∷ n4 ∷ n5 ∷ n6 ∷ n7 ∷ n8 ∷ []) i 0)
+    at zero l = h0
+    at (suc zero) l = h1
+    at (suc (suc zero)) l = h2
+    at (suc (suc (suc zero))) l = h3
+    at (suc (suc (suc (suc zero)))) l = h4
+    at (suc (suc (suc (suc (suc zero))))) l = h5
+    at (suc (suc (suc (suc (suc (suc zero)))))) l = h6
+    at (suc (suc (suc (suc (suc (suc (suc zero))))))) l = h7
+    at (suc (suc (suc (suc (suc (suc (suc (suc zero)))))))) l = h8
+    at (suc (suc (suc (suc (suc (suc (suc (suc (suc i))))))))) l = absurd (omega arith)
+
+pub pair-sized : (bs : List Box) (first second : ℕ) (b o : Box) (cover s t : ℕ) → b ≡ boxAt bs first → o ≡ boxAt bs second → cover ≡ size (join b o) → SizeAt bs first s → SizeAt bs second t
+    → Weighed bs (record { first = first; second = second; cover = cover; both = s + t })
+pair-sized bs first second b o cover s t pb po pc ps pt =
+    record { cover = pc ∙ ap₂ (λ (x y : Box). size (join x y)) pb po; both = ap₂ (λ (x y : ℕ). x + y) (ps .is) (pt .is) }
 
 pub second-done : (bs : List Box) (first second : ℕ) (p r : Pair) → 9 ≤ second → mostWasteful bs p (pairsWith first (places second (9 - second))) ≡ r → p ≡ r
 unfolding mostWasteful pairsWith places

@@ -32,6 +32,14 @@ pub record Small (s : Seeds) : Type 0 where
   pub cover : s .cover ≤ mostSize
   pub both : s .both ≤ mostSize + mostSize
 
+-- the size of the box at a place, and of all nine
+pub record SizeAt (bs : List Box) (i n : ℕ) : Type 0 where
+  pub is : n ≡ size (boxAt bs i)
+  pub most : n ≤ mostSize
+
+pub record SizesOf (bs : List Box) (ns : List ℕ) : Type 0 where
+  pub each : (i : ℕ) → i < 9 → SizeAt bs i (getD ns i 0)
+
 -- the groups that two sides and three arrays stand for
 unfoldable pub groupsOf : Sides → List ℕ → List ℕ → List ℕ → Groups
 groupsOf s is ones others =

@@ -5,5 +5,6 @@ mod filling;
 mod placing;
 mod seeds;
 
+pub use covers::cover_size;
 pub use filling::Halves;
 pub use filling::split;

@@ -7,7 +7,7 @@ ghost use mathlib.Core.Bool.{cond};
 ghost use Prim.Native.Nat.{_+_, _-_, _<_};
 ghost use lib.Dec.{ltb};
 ghost use Rattle.split.specs.Split.{places, pairsWith, mostWasteful, seeds};
-ghost use Rattle.split.specs.Working.{boxesIn, pairOf, Weighed, Small};
+ghost use Rattle.split.specs.Working.{boxesIn, pairOf, Weighed, Small, SizeAt, SizesOf};
 
 // Two places, the size of their covering box and both sizes: the waste is the difference, which may be negative.
 pub struct Seeds {
@@ -30,13 +30,36 @@ impl Seeds {
     }
 }
 
+fn size_at(words: &[u16; 54], i: usize) -> u64
+    ensures { λ r. ⌜ SizeAt (boxesIn (now (words .entry))) i r ⌝ }
+{
+    size_of(box_at(words, i))
+}
+
+// Each place is in eight pairs, so it is weighed before them.
+fn sizes_of(words: &[u16; 54]) -> [u64; 9]
+    ensures { λ r. ⌜ SizesOf (boxesIn (now (words .entry))) r ⌝ }
+{
+    [
+        size_at(words, 0),
+        size_at(words, 1),
+        size_at(words, 2),
+        size_at(words, 3),
+        size_at(words, 4),
+        size_at(words, 5),
+        size_at(words, 6),
+        size_at(words, 7),
+        size_at(words, 8),
+    ]
+}
+
 // The worst of a pair and all that have this first place.
-fn worst_with(words: &[u16; 54], first: usize, pair: Seeds) -> Seeds
-    requires { ⌜ (first < 9) × Weighed (boxesIn (now words)) pair × Small pair ⌝ }
+fn worst_with(words: &[u16; 54], sizes: &[u64; 9], first: usize, pair: Seeds) -> Seeds
+    requires { ⌜ (first < 9) × Weighed (boxesIn (now words)) pair × Small pair × SizesOf (boxesIn (now words)) (now sizes) ⌝ }
     ensures { λ r. ⌜ (pairOf r ≡ mostWasteful (boxesIn (now (words .entry))) (pairOf pair) (pairsWith first (places (first + 1) (9 - (first + 1))))) × Weighed (boxesIn (now (words .entry))) r × Small r ⌝ }
 {
     let b = box_at(words, first);
-    let size = size_of(b);
+    let size = sizes[first];
     let mut worst = pair;
     let mut second = first + 1;
     while second < 9 {
@@ -45,7 +68,7 @@ fn worst_with(words: &[u16; 54], first: usize, pair: Seeds) -> Seeds
             first,
             second,
             cover: cover_size(b, other),
-            both: size + size_of(other),
+            both: size + sizes[second],
         };
         worst = worst.or_worse(next);
         second += 1;
@@ -64,9 +87,10 @@ pub fn worst_pair(words: &[u16; 54]) -> Seeds
         cover: cover_size(one, other),
         both: size_of(one) + size_of(other),
     };
+    let sizes = sizes_of(words);
     let mut first = 0;
     while first < 9 {
-        worst = worst_with(words, first, worst);
+        worst = worst_with(words, &sizes, first, worst);
         first += 1;
     }
     worst

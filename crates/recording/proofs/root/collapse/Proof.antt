@@ -3,8 +3,8 @@ use Rattle.recording.specs.RootSteps.{Collapsing, collapse-turn, collaps
 use Rattle.recording.specs.TableSteps.{still-fits}
 use Rattle.recording.specs.Recording.{collapse}
 use Rattle.pages.specs.Layout.{pagesOf}
+use Rattle.wellformed.specs.WellFormed.{page}
 use borrow.Author.Tests.{not-true, not-false}
-use borrow.Author.Needs.{needs}
 use native.Mathlib.Omega.{arith}
 use mathlib.Core.Path.{refl}
 use Rattle.recording.proofs.root.collapse.Statement.{statement}
@@ -19,23 +19,20 @@ abbrev μ-loop : tie.MeasureT-loop
 loop-holds : tie.Need-loop-holds Inv-loop μ-loop
 loop-holds c = record { same-length = refl; leads = refl }
 
-root-page-requires : tie.Need-root-page-requires Inv-loop μ-loop
-root-page-requires c κs = still-fits (c .before .before .before .before .args .t .now) (c .before .before .loop .t) (c .before .before .before .before .pre) (c .before .before .loop .inv .same-length)
-
 one-entry-requires : tie.Need-one-entry-requires Inv-loop μ-loop
-one-entry-requires c κs = tt
+one-entry-requires c κs = still-fits (c .before .before .before .before .args .t .now) (c .before .before .loop .t) (c .before .before .before .before .pre) (c .before .before .loop .inv .same-length)
 
 same-length : tie.Need-same-length Inv-loop μ-loop
-same-length c = c .before .before .before .before .before .loop .inv .same-length
+same-length c = c .before .before .before .before .loop .inv .same-length
 
 returns : tie.Need-returns Inv-loop μ-loop
-returns c = collapse-done (c .before .before .before .before .before .loop .left) _ _ _ (c .before .before .root-page .result) (c .before .one-entry .result) _ (c .before .before .root-page .ensures) (c .before .one-entry .ensures) (not-true _ (c .if1 .taken)) (c .before .before .before .before .before .loop .inv)
+returns c = collapse-done (c .before .before .before .before .loop .left) _ _ _ (page (pagesOf (c .before .before .before .before .loop .t)) (c .before .before .before .before .loop .r)) (c .before .one-entry .result) _ refl (c .before .one-entry .ensures) (not-true _ (c .if1 .taken)) (c .before .before .before .before .loop .inv)
+
+first-child-requires : tie.Need-first-child-requires Inv-loop μ-loop
+first-child-requires c κs = still-fits (c .before .before .before .before .before .before .before .args .t .now) (c .before .before .before .before .before .loop .t) (c .before .before .before .before .before .before .before .pre) (c .before .before .before .before .before .loop .inv .same-length)
 
 free-root-requires : tie.Need-free-root-requires Inv-loop μ-loop
-free-root-requires c κs = still-fits (c .before .before .before .before .before .before .before .before .args .t .now) (c .before .before .before .before .before .before .loop .t) (c .before .before .before .before .before .before .before .before .pre) (c .before .before .before .before .before .before .loop .inv .same-length)
-
-element-copy-out-e : tie.Need-element-copy-out-e Inv-loop μ-loop
-element-copy-out-e c = search needs
+free-root-requires c κs = still-fits (c .before .before .before .before .before .before .before .before .before .args .t .now) (c .before .before .before .before .before .before .before .loop .t) (c .before .before .before .before .before .before .before .before .before .pre) (c .before .before .before .before .before .before .before .loop .inv .same-length)
 
 sub-left : tie.Need-sub-left Inv-loop μ-loop
 sub-left c = omega arith
@@ -44,7 +41,7 @@ loop-less : tie.Need-loop-less Inv-loop μ-loop
 loop-less c = omega arith
 
 loop-again : tie.Need-loop-again Inv-loop μ-loop
-loop-again c = collapse-turn (c .before .before .before .before .before .before .before .before .before .before .loop .left) (c .before .before .before .before .before .before .before .before .before .before .loop .r) _ _ _ _ (c .before .before .before .before .before .before .before .root-page .result) (c .before .before .before .before .before .before .one-entry .result) _ (omega arith) (c .before .before .before .before .before .before .before .root-page .ensures) (c .before .before .before .before .before .before .one-entry .ensures) (not-false _ (c .before .before .before .before .before .if1 .left)) refl (c .before .before .before .free-root .ensures) (c .before .before .before .before .before .before .before .before .before .before .loop .inv)
+loop-again c = collapse-turn (c .before .before .before .before .before .before .before .before .before .before .loop .left) (c .before .before .before .before .before .before .before .before .before .before .loop .r) _ _ _ _ (page (pagesOf (c .before .before .before .before .before .before .before .before .before .before .loop .t)) (c .before .before .before .before .before .before .before .before .before .before .loop .r)) (c .before .before .before .before .before .before .before .one-entry .result) _ (omega arith) refl (c .before .before .before .before .before .before .before .one-entry .ensures) (not-false _ (c .before .before .before .before .before .before .if1 .left)) (c .before .before .before .before .first-child .ensures) (c .before .before .free-root .ensures) (c .before .before .before .before .before .before .before .before .before .before .loop .inv)
 
 same-length-2 : tie.Need-same-length-2 Inv-loop μ-loop
 same-length-2 c = c .before .loop .inv .same-length
@@ -59,12 +56,11 @@ collapse-spec =
     Inv-loop
     μ-loop
     loop-holds
-    root-page-requires
     one-entry-requires
     same-length
     returns
+    first-child-requires
     free-root-requires
-    element-copy-out-e
     sub-left
     loop-less
     loop-again
