@@ -1,0 +1,4 @@
+-- The lines' definitions, to be read beside document 01, "The counter program", and the laws that the storey above cites.
+pub mod Lines
+pub mod Printing
+pub mod Examples

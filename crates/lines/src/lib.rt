@@ -1,0 +1,9 @@
+// The counter program's lines: what a clerk types becomes a call, and an answer becomes what is printed.
+// Neither asks anything of its caller: every line of bytes has its meaning, and every answer its line.
+mod printing;
+mod reading;
+
+pub use printing::Answer;
+pub use reading::Line;
+pub use reading::Span;
+pub use reading::Typed;
