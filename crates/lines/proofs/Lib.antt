@@ -1,0 +1,3 @@
+mod Turns
+mod Places
+mod Told
