@@ -3,3 +3,5 @@ pub mod Lines
 pub mod Printing
 pub mod Examples
 pub mod Cursor
+pub mod Filling
+pub mod NumberLaws

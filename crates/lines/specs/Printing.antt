@@ -2,6 +2,7 @@
 use Prim.Native.Nat.{ℕ, zero, suc, _+_, _/_, _%_}
 use mathlib.Core.Bool.{Bool, true, false, cond}
 use mathlib.Core.List.{List, [], _∷_, _++_}
+use mathlib.Core.Path.{_≡_}
 use lib.Dec.{leb, ltb}
 use lib.ListN.{length, take, drop}
 use Prim.Native.String.{String}
@@ -44,11 +45,15 @@ abbrev pub longestAnswer : ℕ
 longestAnswer = 73
 
 -- An answer is printed where the longest would fit; elsewhere the buffer and the place stay.
-abbrev pub hasRoom : List ℕ → ℕ → Bool
-hasRoom buffer place = leb (place + longestAnswer) (length buffer)
+abbrev pub fits : ℕ → ℕ → Bool
+fits size place = leb (place + longestAnswer) size
 
 unfoldable pub bufferAfter : Answer → List ℕ → ℕ → List ℕ
-bufferAfter a buffer place = cond (hasRoom buffer place) (put buffer place (printed a)) buffer
+bufferAfter a buffer place = cond (fits (length buffer) place) (put buffer place (printed a)) buffer
 
 unfoldable pub placeAfter : Answer → List ℕ → ℕ → ℕ
-placeAfter a buffer place = cond (hasRoom buffer place) (place + length (printed a)) place
+placeAfter a buffer place = cond (fits (length buffer) place) (place + length (printed a)) place
+
+pub record Prints (a : Answer) (before after : List ℕ) (place next : ℕ) : Type 0 where
+  pub buffer : after ≡ bufferAfter a before place
+  pub past : next ≡ placeAfter a before place

@@ -6,6 +6,7 @@ mod reading;
 mod words;
 
 pub use printing::Answer;
+pub use printing::print;
 pub use reading::Line;
 pub use reading::Span;
 pub use reading::Typed;
