@@ -10,4 +10,5 @@ pub use printing::print;
 pub use reading::Line;
 pub use reading::Span;
 pub use reading::Typed;
+pub use reading::narrow;
 pub use reading::parse;
