@@ -3,15 +3,14 @@ use mathlib.Core.Bool.{Bool, true, false, not}
 use mathlib.Core.List.{List, [], _∷_, _++_, append-assoc, append-nil}
 use mathlib.Core.Logic.{⊎-elim}
 use mathlib.Core.Path.{_≡_, refl, sym, ap, _∙_}
-use Prim.Native.Nat.{ℕ, zero, suc, _+_, _-_, _*_, _/_, _%_, _^_, _≤_, _<_}
-use native.Mathlib.Nat.{pow-succ'}
+use Prim.Native.Nat.{ℕ, zero, suc, _+_, _-_, _/_, _%_, _^_, _≤_, _<_}
 use native.Mathlib.Numerals.{add-one}
 use native.Mathlib.Omega.{arith}
 use borrow.Rule.Slice.PartMut.{midOf, putMid}
 use borrow.Author.Tests.{le-leb, lt-leb, leb-true, not-true, not-false}
 use lib.Dec.{leb}
 use lib.ListN.{length, getD, take, drop, set, length-append, length-take, length-drop, length-set, drop-of-length-le}
-use lib.Seq.{take-all, take-suc, take-suc-set, drop-cons, drop-set-lt, getD-set-same, append-snoc, set-split, take-at, drop-at, drop-append-add, drop-drop, length-take-le}
+use lib.Seq.{take-all, take-suc, take-suc-set, drop-cons, drop-set-lt, getD-set-same, append-snoc, set-split, take-at, drop-at, drop-drop, length-take-le}
 use Rattle.ground.specs.Tests.{below-or-not, same-test}
 use Rattle.lines.specs.Printing.{decimalOf, decimal, lineEnd, printed, put, fits, bufferAfter, placeAfter, Prints}
 use Rattle.lines.specs.declared.printing.Answer.{Answer}
@@ -193,8 +192,8 @@ module _ (label before first : List ℕ) (p n count : ℕ) (room : p + length la
       puts-length (label ++ decimal n) before (putMid (p + length label) (p + length label + count - (p + length label)) (putMid p (p + length label - p) before first) digits) p (p + length label + count) (labelled-told digits e) (omega (arith, decimal-most 10 n))
 
 -- what is left of the room after a label and a number
-pub room-left : (label : List ℕ) (n : ℕ) (before after : List ℕ) (p q k : ℕ) → Puts (label ++ decimal n) before after p q → p + (length label + 10 + k) ≤ length before → q + k ≤ length after
-room-left label n before after p q k h room =
+pub room-left : (label : List ℕ) (n k : ℕ) {before after : List ℕ} {p q : ℕ} → Puts (label ++ decimal n) before after p q → p + (length label + 10 + k) ≤ length before → q + k ≤ length after
+room-left label n k {before} {after} {p} {q} h room =
     let long = length-append label (decimal n) in
     let end : q ≤ p + (length label + 10) = omega (arith, h .past, long, decimal-most 10 n) in
     omega (arith, puts-length (label ++ decimal n) before after p q h (omega arith))
@@ -204,14 +203,14 @@ pub record Ends (k : ℕ) (bytes before after : List ℕ) (p r : ℕ) : Type 0 w
   pub puts : Puts bytes before after p r
   pub most : length bytes ≤ k
 
-pub ends : (before after : List ℕ) (p r : ℕ) → Puts lineEnd before after p r → Ends 1 lineEnd before after p r
-ends before after p r h = record { puts = h; most = omega arith }
+pub ends : {before after : List ℕ} {p r : ℕ} → Puts lineEnd before after p r → Ends 1 lineEnd before after p r
+ends h = record { puts = h; most = omega arith }
 
 pub ends-after :
-    (label : List ℕ) (n k : ℕ) (bytes before middle after : List ℕ) (p q r : ℕ)
+    (label : List ℕ) (n : ℕ) {k : ℕ} {bytes before middle after : List ℕ} {p q r : ℕ}
     → p + (length label + 10 + k) ≤ length before → Puts (label ++ decimal n) before middle p q → Ends k bytes middle after q r
     → Ends (length label + 10 + k) ((label ++ decimal n) ++ bytes) before after p r
-ends-after label n k bytes before middle after p q r room h e =
+ends-after label n {k} {bytes} {before} {middle} {after} {p} {q} {r} room h e =
     let long = length-append label (decimal n) in
     record {
       puts = puts-then (label ++ decimal n) bytes before middle after p q r h (e .puts) (omega (arith, h .past, long, decimal-most 10 n, e .most));

@@ -1,22 +1,19 @@
 -- The places that the code goes through: the words, kinds and values that it finds there are those of the line.
-use mathlib.Core.Bool.{Bool, true, false, _&&_, not, cond, false≢true}
+use mathlib.Core.Bool.{Bool, true, false, _&&_, cond, false≢true}
 use mathlib.Core.List.{List, [], _∷_}
 use mathlib.Core.Logic.{⊎-elim}
-use mathlib.Core.Path.{_≡_, refl, sym, ap, _∙_}
-use Prim.Native.Nat.{ℕ, zero, suc, _+_, _-_, _≤_, _<_}
+use mathlib.Core.Path.{_≡_, refl, ap, _∙_}
+use Prim.Native.Nat.{ℕ, suc, _+_, _-_, _≤_, _<_}
 use native.Mathlib.Numerals.{add-one}
 use native.Mathlib.Omega.{arith}
-use borrow.Author.Tests.{le-leb, lt-leb, leb-true, leb-false, eq-eqb, ne-eqb, eqb-true}
-use lib.Dec.{leb, ltb, eqb, leb·suc-suc}
-use lib.ListN.{length, getD, take, drop, length-drop, drop-of-length-le}
-use lib.Seq.{drop-drop, take-all}
-use Rattle.ground.specs.Tests.{both, joint, below-or-not, fails, same-test}
-use Rattle.lines.specs.Lines.{text, Word, space, withByte, words, Kind, aNumber, aDate, isA, value, areA, values, addArguments, askArguments, boxTyped, gustTyped, same, command, commandOf, parsed}
+use borrow.Author.Tests.{le-leb, lt-leb, leb-true, eq-eqb, ne-eqb}
+use lib.Dec.{leb, eqb, leb·suc-suc}
+use lib.ListN.{length, take, drop, length-drop}
+use lib.Seq.{drop-drop}
+use Rattle.ground.specs.Tests.{both, below-or-not, same-test}
+use Rattle.lines.specs.Lines.{space, withByte, words, Kind, isA, value, areA, values, addArguments, askArguments, boxTyped, gustTyped}
 use Rattle.lines.specs.Cursor.{firstWord, wordAt, wordEnd, wordsFrom, argumentAt, notRead, boxAt, isRead, addFrom, askFrom}
-use Rattle.lines.specs.declared.arguments.Argument.{Argument}
-use Rattle.lines.specs.declared.reading.Line.{Line}
-use Rattle.lines.specs.declared.reading.Line.the-variants.{Add, Ask, Count, Refused}
-use Rattle.lines.proofs.Turns.{same-is}
+use Rattle.lines.specs.declared.reading.Line.the-variants.{Add, Ask, Refused}
 
 -- the first word is the line's start
 pub word-short : (l : List ℕ) → length (firstWord l) ≤ length l

@@ -1,11 +1,11 @@
 -- What each function returns, from what its callees promise: pure laws over a line and a place.
 use mathlib.Core.Bool.{Bool, true, false, _&&_, _||_, not, cond, false≢true}
-use mathlib.Core.List.{List, [], _∷_}
+use mathlib.Core.List.{List, _∷_}
 use mathlib.Core.Logic.{⊎-elim}
 use mathlib.Core.Path.{_≡_, refl, sym, ap, _∙_}
-use Prim.Native.Nat.{ℕ, zero, suc, _+_, _-_, _≤_, _<_}
+use Prim.Native.Nat.{ℕ, _+_, _-_, _≤_, _<_}
 use native.Mathlib.Omega.{arith}
-use borrow.Author.Tests.{le-leb, lt-leb, leb-true, ltb-true, ltb-false, lt-ltb, le-ltb, eq-eqb, ne-eqb, eqb-true, not-true, not-false}
+use borrow.Author.Tests.{le-leb, leb-true, ltb-true, ltb-false, eq-eqb, ne-eqb, eqb-true, not-true, not-false}
 use lib.Dec.{leb, ltb, eqb}
 use lib.ListN.{length, getD, take, drop}
 use lib.Seq.{take-all}
@@ -13,15 +13,14 @@ use Rattle.ground.specs.Dates.{isDate, dayNumber, dayOf}
 use Rattle.ground.specs.Tests.{both, either, fails, below-or-not}
 use Rattle.ground.specs.declared.dates.DayNumber.{DayNumber}
 use Rattle.ground.specs.declared.dates.DayNumber.the-variants.{Day, NoSuchDate}
-use Rattle.lines.specs.Lines.{text, Word, dash, withByte, words, areDigits, isNumber, part, dateIn, isDashed, isDateWord, Kind, aNumber, aDate, isA, value, areA, values, addArguments, askArguments, countArguments, boxTyped, gustTyped, same, command, commandOf, parsed}
-use Rattle.lines.specs.Cursor.{firstWord, wordAt, wordEnd, wordsFrom, digitsOf, dayIn, argumentAt, notRead, boxAt, isRead, addFrom, askFrom}
+use Rattle.lines.specs.Lines.{text, Word, dash, withByte, words, areDigits, isNumber, part, dateIn, isDashed, isDateWord, aNumber, aDate, isA, value, areA, values, countArguments, same, command, commandOf, parsed}
+use Rattle.lines.specs.Cursor.{firstWord, wordAt, wordEnd, wordsFrom, digitsOf, dayIn, argumentAt, notRead, boxAt, addFrom, askFrom}
 use Rattle.lines.specs.declared.words.Digits.{Digits}
 use Rattle.lines.specs.declared.arguments.Argument.{Argument}
 use Rattle.lines.specs.declared.arguments.BoxRead.{BoxRead}
-use Rattle.lines.specs.declared.reading.Line.{Line}
 use Rattle.lines.specs.declared.reading.Line.the-variants.{Add, Ask, Count, Refused}
 use Rattle.lines.proofs.Turns.{same-is}
-use Rattle.lines.proofs.Places.{end-within, word-short, word-start, word-there, words-from, from-inside, found, not-found, add-so, ask-so}
+use Rattle.lines.proofs.Places.{end-within, word-start, word-there, words-from, from-inside, found, not-found, add-so, ask-so}
 
 -- the word at a place, cut out
 cut-out : (line : List ℕ) (p end : ℕ) → end ≡ wordEnd line p → take (end - p) (drop p line) ≡ wordAt line p
@@ -194,10 +193,6 @@ module _ (line : List ℕ) (end : ℕ) (e : end ≡ wordEnd line 0) (short : len
   parse-ask t q y =
       let word : take end line ≡ text "ask" = same-is (take end line) (text "ask") (sym q ∙ y) in
       ask-so line (end + 1) place-within ∙ sym (by-command ∙ rw word)
-
-pub parse-long : (line : List ℕ) → 80 < length line → Refused ≡ parsed line
-unfolding parsed
-parse-long line h = rw (lt-leb (length line) 80 h)
 
 pub parse-count : (line : List ℕ) (t : Bool) → t ≡ same line (text "count") → t ≡ true → Count ≡ parsed line
 unfolding parsed commandOf command words withByte areA values same

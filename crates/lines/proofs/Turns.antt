@@ -3,15 +3,15 @@ use mathlib.Core.Bool.{Bool, true, false, _&&_, not, and-true, and-assoc, false�
 use mathlib.Core.List.{List, [], _∷_}
 use mathlib.Core.Logic.{⊎-elim}
 use mathlib.Core.Path.{_≡_, refl, sym, ap, _∙_}
-use Prim.Native.Nat.{ℕ, zero, suc, _+_, _-_, _*_, _^_, _≤_, _<_}
+use Prim.Native.Nat.{ℕ, suc, _+_, _-_, _*_, _^_, _≤_, _<_}
 use native.Mathlib.Nat.{pow-succ', pow-le-pow-right, zero-lt-suc}
 use native.Mathlib.Numerals.{add-one}
 use native.Mathlib.Omega.{arith}
-use borrow.Author.Tests.{ltb-true, lt-ltb, not-true, not-false, eqb-true, ne-eqb}
+use borrow.Author.Tests.{ltb-true, lt-ltb, not-true, not-false, eqb-true}
 use lib.Dec.{ltb, eqb}
 use lib.ListN.{length, getD, drop, drop-of-length-le}
 use lib.Seq.{drop-cons}
-use Rattle.ground.specs.Tests.{both, joint, below-or-not, fails}
+use Rattle.ground.specs.Tests.{both, below-or-not, fails}
 use Rattle.lines.specs.Lines.{Word, space, isDigit, areDigits, number, numberFrom, same}
 use Rattle.lines.specs.Cursor.{firstWord, wordEnd, inWord, digitsOf}
 
@@ -50,9 +50,6 @@ pub record Compared (v w : Word) (ok : Bool) (i : ℕ) : Type 0 where
   pub long : length v ≡ length w
   pub so-far : ok && same (drop i v) (drop i w) ≡ same v w
 
-pub compared-none : (v w : Word) → length v ≡ length w → Compared v w true 0
-compared-none v w e = record { within = omega arith; long = e; so-far = refl }
-
 pub compared-more : (v w : Word) (ok : Bool) (i : ℕ) → Compared v w ok i → i < length v → Compared v w (ok && eqb (getD v i 0) (getD w i 0)) (i + 1)
 unfolding same
 compared-more v w ok i h less =
@@ -73,9 +70,6 @@ pub record Read (w : Word) (value : ℕ) (all : Bool) (i : ℕ) : Type 0 where
   pub small : value + 23 ≤ 23 * 10 ^ i
   pub number-so-far : numberFrom value (drop i w) ≡ number w
   pub all-so-far : all && areDigits (drop i w) ≡ areDigits w
-
-pub read-none : (w : Word) → length w ≤ 5 → Read w 0 true 0
-read-none w h = record { within = omega arith; few = h; small = omega arith; number-so-far = refl; all-so-far = refl }
 
 -- the value after a turn fits
 pub read-room : (w : Word) (value : ℕ) (all : Bool) (i d : ℕ) → Read w value all i → i < length w → d ≤ 207 → 10 * value + d < 10_000_000

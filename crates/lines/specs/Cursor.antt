@@ -1,7 +1,7 @@
 -- How the code goes through a line: from a place to the end of the word there, and on to the place after it.
--- Nothing here has to be believed: `CursorLaws` shows that it finds the words, kinds and values of `Lines`.
+-- Nothing here has to be believed: the promise of `parse` speaks of `Lines` alone, and its proof shows that both agree.
 use Prim.Native.Nat.{ℕ, _+_}
-use mathlib.Core.Bool.{Bool, true, false, _&&_, not, cond}
+use mathlib.Core.Bool.{Bool, _&&_, not, cond}
 use mathlib.Core.List.{List, [], _∷_}
 use lib.Dec.{leb, ltb, eqb}
 use lib.ListN.{length, getD, drop}
@@ -12,7 +12,6 @@ use Rattle.lines.specs.Lines.{Word, space, words, areDigits, number, isD
 use Rattle.lines.specs.declared.words.Digits.{Digits}
 use Rattle.lines.specs.declared.arguments.Argument.{Argument}
 use Rattle.lines.specs.declared.arguments.BoxRead.{BoxRead}
-use Rattle.lines.specs.declared.reading.Typed.{Typed}
 use Rattle.lines.specs.declared.reading.Line.{Line}
 use Rattle.lines.specs.declared.reading.Line.the-variants.{Add, Ask, Refused}
 
@@ -47,9 +46,6 @@ notRead line = record { value = 0; next = length line + 2 }
 unfoldable pub argumentAt : Kind → List ℕ → ℕ → Argument
 argumentAt k line place =
     cond (leb place (length line) && isA k (wordAt line place)) (record { value = value k (wordAt line place); next = wordEnd line place + 1 }) (notRead line)
-
-abbrev pub after : Kind → List ℕ → ℕ → ℕ
-after k line place = argumentAt k line place .next
 
 unfoldable pub boxAt : List ℕ → ℕ → BoxRead
 boxAt line place =

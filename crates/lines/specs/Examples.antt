@@ -11,7 +11,6 @@ use Rattle.lines.specs.Printing.{decimalOf, printed}
 use Rattle.lines.specs.declared.reading.Typed.{Typed}
 use Rattle.lines.specs.declared.reading.Line.{Line}
 use Rattle.lines.specs.declared.reading.Line.the-variants.{Add, Ask, Count, Refused}
-use Rattle.lines.specs.declared.printing.Answer.{Answer}
 use Rattle.lines.specs.declared.printing.Answer.the-variants.{Kept, Cut, Covered, Gust, Nothing, Counts, Refused as Refuses}
 
 abbrev lineTyped : String → Line

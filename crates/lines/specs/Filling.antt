@@ -1,5 +1,5 @@
 -- How the code fills a buffer: bytes after bytes, and the digits of a number from its last one on.
--- Nothing here has to be believed: it meets `Printing` in the promise of `print`.
+-- Nothing here has to be believed: the promise of `print` speaks of `Printing` alone.
 use Prim.Native.Nat.{ℕ, zero, suc, _+_, _/_, _%_}
 use mathlib.Core.List.{List, [], _∷_, _++_}
 use mathlib.Core.Path.{_≡_}

@@ -1,7 +1,7 @@
 -- A book's numbers have 16 bits, a typed number up to five digits. One that does not fit becomes the greatest that does, which
 -- is above every limit too: refusals 2 and 3 are given for the one as for the other.
-use mathlib.Core.Bool.{Bool, true, _&&_}
-use mathlib.Core.Path.{_≡_, ap₂, sym}
+use mathlib.Core.Bool.{true}
+use mathlib.Core.Path.{_≡_}
 use Prim.Native.Nat.{ℕ, _≤_, _<_, min}
 use native.Mathlib.Omega.{arith}
 use borrow.Author.Tests.{leb-true, le-leb}

@@ -1,10 +1,9 @@
 // Printing an answer into a lent buffer, from a place on.
-ghost use mathlib.Core.List.{[], _∷_, _++_};
+ghost use mathlib.Core.List.{_++_};
 ghost use mathlib.Core.Path.{_≡_};
 ghost use Prim.Native.Nat.{_+_, _≤_};
 ghost use lib.ListN.{length};
-ghost use Rattle.lines.specs.Lines.{text};
-ghost use Rattle.lines.specs.Printing.{decimal, labelled, lineEnd, printed, longestAnswer, fits, Prints};
+ghost use Rattle.lines.specs.Printing.{decimal, lineEnd, printed, longestAnswer, fits, Prints};
 ghost use Rattle.lines.specs.Filling.{lastDigits, Puts};
 
 // What the book says to a line.
@@ -75,7 +74,7 @@ fn one_number(out: &mut [u8], at: usize, label: &[u8], n: u32) -> usize
 
 fn two_numbers(out: &mut [u8], at: usize, tenths: u32, pages: u32) -> usize
     requires { ⌜ at + longestAnswer ≤ length (now out) ⌝ }
-    ensures { λ r. ⌜ Puts (labelled "gust " tenths ++ (labelled " pages " pages ++ lineEnd)) (now (out .entry)) (now (out .exit)) at r ⌝ }
+    ensures { λ r. ⌜ Puts (printed (Answer.Gust tenths pages)) (now (out .entry)) (now (out .exit)) at r ⌝ }
 {
     let next = put_labelled(out, at, b"gust ", tenths);
     let end = put_labelled(out, next, b" pages ", pages);
@@ -91,7 +90,7 @@ fn four_numbers(
     covered: u32,
 ) -> usize
     requires { ⌜ at + longestAnswer ≤ length (now out) ⌝ }
-    ensures { λ r. ⌜ Puts (labelled "accepted " accepted ++ (labelled " held " held ++ (labelled " struck " struck ++ (labelled " covered " covered ++ lineEnd)))) (now (out .entry)) (now (out .exit)) at r ⌝ }
+    ensures { λ r. ⌜ Puts (printed (Answer.Counts accepted held struck covered)) (now (out .entry)) (now (out .exit)) at r ⌝ }
 {
     let second = put_labelled(out, at, b"accepted ", accepted);
     let third = put_labelled(out, second, b" held ", held);

@@ -1,10 +1,10 @@
 -- `lines::arguments::date_at` meets its contract.
 use borrow.Author.Needs.{needs}
+use mathlib.Core.Path.{_∙_}
+use native.Mathlib.Omega.{arith}
+use Rattle.lines.specs.Lines.{aDate}
 use Rattle.lines.proofs.Told.{date-not-long, date-lacking, date-told}
 use Rattle.lines.proofs.Places.{end-within, nothing-past}
-use Rattle.lines.specs.Lines.{aDate}
-use native.Mathlib.Omega.{arith}
-use mathlib.Core.Path.{_∙_}
 use Rattle.lines.proofs.arguments.date_at.Statement.{statement}
 use Rattle.lines.proofs.arguments.date_at.Tie as tie
 

@@ -1,10 +1,10 @@
 -- `lines::arguments::number_at` meets its contract.
 use borrow.Author.Needs.{needs}
+use mathlib.Core.Path.{_∙_}
+use native.Mathlib.Omega.{arith}
+use Rattle.lines.specs.Lines.{aNumber}
 use Rattle.lines.proofs.Told.{number-not-long, few, number-not-digits, number-told}
 use Rattle.lines.proofs.Places.{end-within, nothing-past}
-use Rattle.lines.specs.Lines.{aNumber}
-use native.Mathlib.Omega.{arith}
-use mathlib.Core.Path.{_∙_}
 use Rattle.lines.proofs.arguments.number_at.Statement.{statement}
 use Rattle.lines.proofs.arguments.number_at.Tie as tie
 

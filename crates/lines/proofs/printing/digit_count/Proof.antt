@@ -1,7 +1,7 @@
 -- `lines::printing::digit_count` meets its contract.
 use borrow.Author.Needs.{needs}
-use Rattle.lines.proofs.Fills.{Counted, counted-none, counted-more, counted-all}
 use native.Mathlib.Omega.{arith}
+use Rattle.lines.proofs.Fills.{Counted, counted-none, counted-more, counted-all}
 use Rattle.lines.proofs.printing.digit_count.Statement.{statement}
 use Rattle.lines.proofs.printing.digit_count.Tie as tie
 

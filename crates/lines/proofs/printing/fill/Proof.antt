@@ -1,10 +1,10 @@
 -- `lines::printing::fill` meets its contract.
 use borrow.Author.Needs.{needs}
-use Rattle.lines.proofs.Fills.{Copied, copied-none, copied-more, copied-all}
-use lib.ListN.{length}
-use native.Mathlib.Omega.{arith}
-use Prim.Native.Nat.{_-_}
 use mathlib.Core.Path.{sym, _∙_}
+use Prim.Native.Nat.{_-_}
+use native.Mathlib.Omega.{arith}
+use lib.ListN.{length}
+use Rattle.lines.proofs.Fills.{Copied, copied-none, copied-more, copied-all}
 use Rattle.lines.proofs.printing.fill.Statement.{statement}
 use Rattle.lines.proofs.printing.fill.Tie as tie
 

@@ -1,9 +1,9 @@
 -- `lines::printing::fill_digits` meets its contract.
 use borrow.Author.Needs.{needs}
-use Rattle.lines.proofs.Fills.{Written, written-none, written-more, written-all}
-use lib.ListN.{length}
-use native.Mathlib.Omega.{arith}
 use mathlib.Core.Path.{refl}
+use native.Mathlib.Omega.{arith}
+use lib.ListN.{length}
+use Rattle.lines.proofs.Fills.{Written, written-none, written-more, written-all}
 use Rattle.lines.proofs.printing.fill_digits.Statement.{statement}
 use Rattle.lines.proofs.printing.fill_digits.Tie as tie
 

@@ -1,8 +1,9 @@
 -- `lines::printing::four_numbers` meets its contract.
 use borrow.Author.Needs.{needs}
-use Rattle.lines.proofs.Fills.{room-left, ends, ends-after}
-use Rattle.lines.specs.Lines.{text}
 use native.Mathlib.Omega.{arith}
+use Rattle.lines.specs.Lines.{text}
+use Rattle.lines.specs.Printing.{printed}
+use Rattle.lines.proofs.Fills.{room-left, ends, ends-after}
 use Rattle.lines.proofs.printing.four_numbers.Statement.{statement}
 use Rattle.lines.proofs.printing.four_numbers.Tie as tie
 
@@ -16,28 +17,66 @@ slice-aggregate-put-labelled-2 : tie.Need-slice-aggregate-put-labelled-2
 slice-aggregate-put-labelled-2 c = search needs
 
 put-labelled-requires-2 : tie.Need-put-labelled-requires-2
-put-labelled-requires-2 c κs = omega (arith, (room-left (text "accepted ") (c .before .before .before .before .before .before .before .before .args .accepted) _ _ _ _ 54 (c .before .before .before .before .put-labelled .ensures) (c .before .before .before .before .before .before .before .before .pre)))
+put-labelled-requires-2 c κs =
+    let start = c .before .before .before .before .before .before .before .before in
+    let put1 = c .before .before .before .before .put-labelled .ensures in
+    omega (arith, room-left (text "accepted ") (start .args .accepted) 54 put1 (start .pre))
 
 slice-aggregate-put-labelled-3 : tie.Need-slice-aggregate-put-labelled-3
 slice-aggregate-put-labelled-3 c = search needs
 
 put-labelled-requires-3 : tie.Need-put-labelled-requires-3
-put-labelled-requires-3 c κs = omega (arith, (room-left (text " held ") (c .before .before .before .before .before .before .before .before .before .before .before .before .before .args .held) _ _ _ _ 38 (c .before .before .before .before .put-labelled2 .ensures) (room-left (text "accepted ") (c .before .before .before .before .before .before .before .before .before .before .before .before .before .args .accepted) _ _ _ _ 54 (c .before .before .before .before .before .before .before .before .before .put-labelled .ensures) (c .before .before .before .before .before .before .before .before .before .before .before .before .before .pre))))
+put-labelled-requires-3 c κs =
+    let start = c .before .before .before .before .before .before .before .before .before .before .before .before .before in
+    let put1 = c .before .before .before .before .before .before .before .before .before .put-labelled .ensures in
+    let room1 = room-left (text "accepted ") (start .args .accepted) 54 put1 (start .pre) in
+    let put2 = c .before .before .before .before .put-labelled2 .ensures in
+    omega (arith, room-left (text " held ") (start .args .held) 38 put2 room1)
 
 slice-aggregate-put-labelled-4 : tie.Need-slice-aggregate-put-labelled-4
 slice-aggregate-put-labelled-4 c = search needs
 
 put-labelled-requires-4 : tie.Need-put-labelled-requires-4
-put-labelled-requires-4 c κs = omega (arith, (room-left (text " struck ") (c .before .before .before .before .before .before .before .before .before .before .before .before .before .before .before .before .before .before .args .struck) _ _ _ _ 20 (c .before .before .before .before .put-labelled3 .ensures) (room-left (text " held ") (c .before .before .before .before .before .before .before .before .before .before .before .before .before .before .before .before .before .before .args .held) _ _ _ _ 38 (c .before .before .before .before .before .before .before .before .before .put-labelled2 .ensures) (room-left (text "accepted ") (c .before .before .before .before .before .before .before .before .before .before .before .before .before .before .before .before .before .before .args .accepted) _ _ _ _ 54 (c .before .before .before .before .before .before .before .before .before .before .before .before .before .before .put-labelled .ensures) (c .before .before .before .before .before .before .before .before .before .before .before .before .before .before .before .before .before .before .pre)))))
+put-labelled-requires-4 c κs =
+    let start = c .before .before .before .before .before .before .before .before .before .before .before .before .before .before .before .before .before .before in
+    let put1 = c .before .before .before .before .before .before .before .before .before .before .before .before .before .before .put-labelled .ensures in
+    let room1 = room-left (text "accepted ") (start .args .accepted) 54 put1 (start .pre) in
+    let put2 = c .before .before .before .before .before .before .before .before .before .put-labelled2 .ensures in
+    let room2 = room-left (text " held ") (start .args .held) 38 put2 room1 in
+    let put3 = c .before .before .before .before .put-labelled3 .ensures in
+    omega (arith, room-left (text " struck ") (start .args .struck) 20 put3 room2)
 
 end-line-requires : tie.Need-end-line-requires
-end-line-requires c κs = (room-left (text " covered ") (c .before .before .before .before .before .before .before .before .before .before .before .before .before .before .before .before .before .before .before .before .before .before .args .covered) _ _ _ _ 1 (c .before .before .before .put-labelled4 .ensures) (room-left (text " struck ") (c .before .before .before .before .before .before .before .before .before .before .before .before .before .before .before .before .before .before .before .before .before .before .args .struck) _ _ _ _ 20 (c .before .before .before .before .before .before .before .before .put-labelled3 .ensures) (room-left (text " held ") (c .before .before .before .before .before .before .before .before .before .before .before .before .before .before .before .before .before .before .before .before .before .before .args .held) _ _ _ _ 38 (c .before .before .before .before .before .before .before .before .before .before .before .before .before .put-labelled2 .ensures) (room-left (text "accepted ") (c .before .before .before .before .before .before .before .before .before .before .before .before .before .before .before .before .before .before .before .before .before .before .args .accepted) _ _ _ _ 54 (c .before .before .before .before .before .before .before .before .before .before .before .before .before .before .before .before .before .before .put-labelled .ensures) (c .before .before .before .before .before .before .before .before .before .before .before .before .before .before .before .before .before .before .before .before .before .before .pre)))))
+end-line-requires c κs =
+    let start = c .before .before .before .before .before .before .before .before .before .before .before .before .before .before .before .before .before .before .before .before .before .before in
+    let put1 = c .before .before .before .before .before .before .before .before .before .before .before .before .before .before .before .before .before .before .put-labelled .ensures in
+    let room1 = room-left (text "accepted ") (start .args .accepted) 54 put1 (start .pre) in
+    let put2 = c .before .before .before .before .before .before .before .before .before .before .before .before .before .put-labelled2 .ensures in
+    let room2 = room-left (text " held ") (start .args .held) 38 put2 room1 in
+    let put3 = c .before .before .before .before .before .before .before .before .put-labelled3 .ensures in
+    let room3 = room-left (text " struck ") (start .args .struck) 20 put3 room2 in
+    let put4 = c .before .before .before .put-labelled4 .ensures in
+    room-left (text " covered ") (start .args .covered) 1 put4 room3
 
 same-length : tie.Need-same-length
 same-length c = search needs
 
 returns : tie.Need-returns
-returns c = (ends-after (text "accepted ") (c .before .before .before .before .before .before .before .before .before .before .before .before .before .before .before .before .before .before .before .before .before .before .before .before .before .args .accepted) 54 _ _ _ _ _ _ _ (c .before .before .before .before .before .before .before .before .before .before .before .before .before .before .before .before .before .before .before .before .before .before .before .before .before .pre) (c .before .before .before .before .before .before .before .before .before .before .before .before .before .before .before .before .before .before .before .before .before .put-labelled .ensures) (ends-after (text " held ") (c .before .before .before .before .before .before .before .before .before .before .before .before .before .before .before .before .before .before .before .before .before .before .before .before .before .args .held) 38 _ _ _ _ _ _ _ (room-left (text "accepted ") (c .before .before .before .before .before .before .before .before .before .before .before .before .before .before .before .before .before .before .before .before .before .before .before .before .before .args .accepted) _ _ _ _ 54 (c .before .before .before .before .before .before .before .before .before .before .before .before .before .before .before .before .before .before .before .before .before .put-labelled .ensures) (c .before .before .before .before .before .before .before .before .before .before .before .before .before .before .before .before .before .before .before .before .before .before .before .before .before .pre)) (c .before .before .before .before .before .before .before .before .before .before .before .before .before .before .before .before .put-labelled2 .ensures) (ends-after (text " struck ") (c .before .before .before .before .before .before .before .before .before .before .before .before .before .before .before .before .before .before .before .before .before .before .before .before .before .args .struck) 20 _ _ _ _ _ _ _ (room-left (text " held ") (c .before .before .before .before .before .before .before .before .before .before .before .before .before .before .before .before .before .before .before .before .before .before .before .before .before .args .held) _ _ _ _ 38 (c .before .before .before .before .before .before .before .before .before .before .before .before .before .before .before .before .put-labelled2 .ensures) (room-left (text "accepted ") (c .before .before .before .before .before .before .before .before .before .before .before .before .before .before .before .before .before .before .before .before .before .before .before .before .before .args .accepted) _ _ _ _ 54 (c .before .before .before .before .before .before .before .before .before .before .before .before .before .before .before .before .before .before .before .before .before .put-labelled .ensures) (c .before .before .before .before .before .before .before .before .before .before .before .before .before .before .before .before .before .before .before .before .before .before .before .before .before .pre))) (c .before .before .before .before .before .before .before .before .before .before .before .put-labelled3 .ensures) (ends-after (text " covered ") (c .before .before .before .before .before .before .before .before .before .before .before .before .before .before .before .before .before .before .before .before .before .before .before .before .before .args .covered) 1 _ _ _ _ _ _ _ (room-left (text " struck ") (c .before .before .before .before .before .before .before .before .before .before .before .before .before .before .before .before .before .before .before .before .before .before .before .before .before .args .struck) _ _ _ _ 20 (c .before .before .before .before .before .before .before .before .before .before .before .put-labelled3 .ensures) (room-left (text " held ") (c .before .before .before .before .before .before .before .before .before .before .before .before .before .before .before .before .before .before .before .before .before .before .before .before .before .args .held) _ _ _ _ 38 (c .before .before .before .before .before .before .before .before .before .before .before .before .before .before .before .before .put-labelled2 .ensures) (room-left (text "accepted ") (c .before .before .before .before .before .before .before .before .before .before .before .before .before .before .before .before .before .before .before .before .before .before .before .before .before .args .accepted) _ _ _ _ 54 (c .before .before .before .before .before .before .before .before .before .before .before .before .before .before .before .before .before .before .before .before .before .put-labelled .ensures) (c .before .before .before .before .before .before .before .before .before .before .before .before .before .before .before .before .before .before .before .before .before .before .before .before .before .pre)))) (c .before .before .before .before .before .before .put-labelled4 .ensures) (ends _ _ _ _ (c .before .before .end-line .ensures)))))) .puts
+unfolding printed
+returns c =
+    let start = c .before .before .before .before .before .before .before .before .before .before .before .before .before .before .before .before .before .before .before .before .before .before .before .before .before in
+    let put1 = c .before .before .before .before .before .before .before .before .before .before .before .before .before .before .before .before .before .before .before .before .before .put-labelled .ensures in
+    let room1 = room-left (text "accepted ") (start .args .accepted) 54 put1 (start .pre) in
+    let put2 = c .before .before .before .before .before .before .before .before .before .before .before .before .before .before .before .before .put-labelled2 .ensures in
+    let room2 = room-left (text " held ") (start .args .held) 38 put2 room1 in
+    let put3 = c .before .before .before .before .before .before .before .before .before .before .before .put-labelled3 .ensures in
+    let room3 = room-left (text " struck ") (start .args .struck) 20 put3 room2 in
+    let put4 = c .before .before .before .before .before .before .put-labelled4 .ensures in
+    let end5 = ends (c .before .before .end-line .ensures) in
+    let end4 = ends-after (text " covered ") (start .args .covered) room3 put4 end5 in
+    let end3 = ends-after (text " struck ") (start .args .struck) room2 put3 end4 in
+    let end2 = ends-after (text " held ") (start .args .held) room1 put2 end3 in
+    ends-after (text "accepted ") (start .args .accepted) (start .pre) put1 end2 .puts
 
 pub four-numbers-spec : {M : Type 1} → statement M
 four-numbers-spec =

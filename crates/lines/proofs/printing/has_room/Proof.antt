@@ -1,5 +1,4 @@
 -- `lines::printing::has_room` meets its contract.
-use borrow.Author.Needs.{needs}
 use Rattle.lines.proofs.Fills.{no-room, room-told}
 use Rattle.lines.proofs.printing.has_room.Statement.{statement}
 use Rattle.lines.proofs.printing.has_room.Tie as tie

@@ -1,9 +1,9 @@
 -- `lines::printing::print` meets its contract.
 use borrow.Author.Needs.{needs}
-use Rattle.lines.proofs.Fills.{room-so, prints, prints-nothing}
-use Rattle.lines.specs.Printing.{printed}
-use lib.ListN.{length}
 use native.Mathlib.Omega.{arith}
+use lib.ListN.{length}
+use Rattle.lines.specs.Printing.{printed}
+use Rattle.lines.proofs.Fills.{room-so, prints, prints-nothing}
 use Rattle.lines.proofs.printing.print.Statement.{statement}
 use Rattle.lines.proofs.printing.print.Tie as tie
 

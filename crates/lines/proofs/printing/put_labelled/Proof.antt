@@ -1,8 +1,8 @@
 -- `lines::printing::put_labelled` meets its contract.
 use borrow.Author.Needs.{needs}
-use Rattle.lines.proofs.Fills.{labelled-room, labelled-told, labelled-same}
-use Rattle.lines.specs.NumberLaws.{decimal-most}
 use native.Mathlib.Omega.{arith}
+use Rattle.lines.specs.NumberLaws.{decimal-most}
+use Rattle.lines.proofs.Fills.{labelled-room, labelled-told, labelled-same}
 use Rattle.lines.proofs.printing.put_labelled.Statement.{statement}
 use Rattle.lines.proofs.printing.put_labelled.Tie as tie
 

@@ -1,15 +1,16 @@
 -- `lines::reading::parse` meets its contract.
 use borrow.Author.Needs.{needs}
-use lib.Seq.{length-take-le}
-use Rattle.lines.proofs.Told.{parse-long, parse-add, parse-ask, parse-count, parse-none}
-use Rattle.lines.proofs.Places.{end-within}
-use native.Mathlib.Omega.{arith}
 use mathlib.Core.Path.{sym, _∙_}
+use native.Mathlib.Omega.{arith}
+use lib.Seq.{length-take-le}
+use Rattle.lines.specs.LineLaws.{long-refused}
+use Rattle.lines.proofs.Told.{parse-add, parse-ask, parse-count, parse-none}
+use Rattle.lines.proofs.Places.{end-within}
 use Rattle.lines.proofs.reading.parse.Statement.{statement}
 use Rattle.lines.proofs.reading.parse.Tie as tie
 
 returns : tie.Need-returns
-returns c = parse-long _ (c .if1 .taken)
+returns c = sym (long-refused _ (c .if1 .taken))
 
 word-end-requires : tie.Need-word-end-requires
 word-end-requires c κs = search needs

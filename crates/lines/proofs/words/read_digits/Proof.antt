@@ -4,7 +4,7 @@ use mathlib.Core.Path.{refl}
 use Prim.Native.Nat.{_-_}
 use native.Mathlib.Omega.{arith}
 use lib.ListN.{length}
-use Rattle.lines.proofs.Turns.{Read, read-none, read-room, read-more, read-all}
+use Rattle.lines.proofs.Turns.{Read, read-room, read-more, read-all}
 use Rattle.lines.proofs.words.read_digits.Statement.{statement}
 use Rattle.lines.proofs.words.read_digits.Tie as tie
 

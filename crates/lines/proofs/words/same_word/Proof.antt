@@ -1,9 +1,8 @@
 -- `lines::words::same_word` meets its contract.
 use borrow.Author.Needs.{needs}
 use Prim.Native.Nat.{_-_}
-use native.Mathlib.Omega.{arith}
 use lib.ListN.{length}
-use Rattle.lines.proofs.Turns.{Compared, unlike, compared-none, compared-more, compared-all}
+use Rattle.lines.proofs.Turns.{Compared, unlike, compared-more, compared-all}
 use Rattle.lines.proofs.words.same_word.Statement.{statement}
 use Rattle.lines.proofs.words.same_word.Tie as tie
 
