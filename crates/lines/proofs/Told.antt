@@ -1,26 +1,26 @@
 -- What each function returns, from what its callees promise: pure laws over a line and a place.
 use mathlib.Core.Bool.{Bool, true, false, _&&_, _||_, not, cond, false≢true}
-use mathlib.Core.List.{List, _∷_}
-use mathlib.Core.Logic.{⊎-elim}
+use mathlib.Core.List.{List, [], _∷_, _++_}
+use mathlib.Core.Logic.{_⊎_, _⊎_.inl, _⊎_.inr, ⊎-elim}
 use mathlib.Core.Path.{_≡_, refl, sym, ap, _∙_}
-use Prim.Native.Nat.{ℕ, _+_, _-_, _≤_, _<_}
+use Prim.Native.Nat.{ℕ, zero, suc, _+_, _-_, _≤_, _<_}
 use native.Mathlib.Omega.{arith}
-use borrow.Author.Tests.{le-leb, leb-true, ltb-true, ltb-false, eq-eqb, ne-eqb, eqb-true, not-true, not-false}
+use borrow.Author.Tests.{le-leb, lt-leb, leb-true, ltb-true, ltb-false, eq-eqb, ne-eqb, eqb-true, not-true, not-false}
 use lib.Dec.{leb, ltb, eqb}
-use lib.ListN.{length, getD, take, drop}
-use lib.Seq.{take-all}
+use lib.ListN.{length, getD, take, drop, length-drop}
+use lib.Seq.{take-all, getD-drop, drop-drop, split-at}
 use Rattle.ground.specs.Dates.{isDate, dayNumber, dayOf}
-use Rattle.ground.specs.Tests.{both, either, fails, below-or-not}
+use Rattle.ground.specs.Tests.{both, joint, either, first-of, second-of, fails, orders, below-or-not}
 use Rattle.ground.specs.declared.dates.DayNumber.{DayNumber}
 use Rattle.ground.specs.declared.dates.DayNumber.the-variants.{Day, NoSuchDate}
-use Rattle.lines.specs.Lines.{text, Word, dash, withByte, words, areDigits, isNumber, part, dateIn, isDashed, isDateWord, aNumber, aDate, isA, value, areA, values, countArguments, same, command, commandOf, parsed}
-use Rattle.lines.specs.Cursor.{firstWord, wordAt, wordEnd, wordsFrom, digitsOf, dayIn, argumentAt, notRead, boxAt, addFrom, askFrom}
+use Rattle.lines.specs.Lines.{text, Word, space, dash, withByte, words, isDigit, areDigits, isNumber, part, dateIn, isDashed, isDateWord, aNumber, aDate, isA, value, areA, values, countArguments, same, command, commandOf, parsed}
+use Rattle.lines.specs.Cursor.{firstWord, wordAt, wordEnd, wordsFrom, digitsOf, tenThere, dayIn, argumentAt, notRead, boxAt, addFrom, askFrom}
 use Rattle.lines.specs.declared.words.Digits.{Digits}
 use Rattle.lines.specs.declared.arguments.Argument.{Argument}
 use Rattle.lines.specs.declared.arguments.BoxRead.{BoxRead}
 use Rattle.lines.specs.declared.reading.Line.the-variants.{Add, Ask, Count, Refused}
 use Rattle.lines.proofs.Turns.{same-is}
-use Rattle.lines.proofs.Places.{end-within, word-start, word-there, words-from, from-inside, found, not-found, add-so, ask-so}
+use Rattle.lines.proofs.Places.{end-within, word-short, word-start, word-there, words-from, from-inside, found, not-found, add-so, ask-so}
 
 -- the word at a place, cut out
 cut-out : (line : List ℕ) (p end : ℕ) → end ≡ wordEnd line p → take (end - p) (drop p line) ≡ wordAt line p
@@ -104,23 +104,139 @@ dated w d e = by-form (isDashed w) (isDate (dateIn w)) e
     by-form true false q = absurd (let z : _≡_ {A = ℕ} 0 1 = cc in omega arith)
     by-form false t q = absurd (let z : _≡_ {A = ℕ} 0 1 = cc in omega arith)
 
-module _ (line : List ℕ) (p end : ℕ) (e : end ≡ wordEnd line p) where
-  pub date-not-long : (end - p ≡ 10 → ⊥) → notRead line ≡ argumentAt aDate line p
-  unfolding isA
-  date-not-long n =
-      not-found aDate line p (fails (isDateWord (wordAt line p)) (λ t.
-      let h = both (isDashed (wordAt line p)) (isDate (dateIn (wordAt line p))) t in
-      n (sym (word-long line p end e) ∙ dashed-long (wordAt line p) (h .0))))
+-- a word of ten bytes, known by its end
+stops : (l : List ℕ) → length (firstWord l) < length l → getD l (length (firstWord l)) 0 ≡ space
+unfolding firstWord
+stops [] h = absurd (omega arith)
+stops (b ∷ bs) h = by-space (eqb b space) refl h (λ k. stops bs k)
+  where
+    by-space :
+        (t : Bool) → eqb b space ≡ t → length (cond t [] (b ∷ firstWord bs)) < suc (length bs)
+        → (length (firstWord bs) < length bs → getD bs (length (firstWord bs)) 0 ≡ space)
+        → getD (b ∷ bs) (length (cond t [] (b ∷ firstWord bs))) 0 ≡ space
+    by-space true e k more = eqb-true b space e
+    by-space false e k more = more (omega arith)
 
-  pub date-lacking : (r : DayNumber) → r ≡ dayIn (take (end - p) (drop p line)) → r ≡ NoSuchDate → notRead line ≡ argumentAt aDate line p
-  unfolding isA
-  date-lacking r q n = not-found aDate line p (lacking (wordAt line p) (sym n ∙ q ∙ ap (λ (w : Word). dayIn w) (cut-out line p end e)))
+ten-stands : (line : List ℕ) (p : ℕ) → length (wordAt line p) ≡ 10 → tenThere line p ≡ true
+ten-stands line p e =
+    let short = word-short (drop p line) in
+    let long = length-drop p line in
+    let room : p + 10 ≤ length line = omega arith in
+    joint (leb (p + 10) (length line)) (eqb (p + 10) (length line) || eqb (getD line (p + 10) 0) space) (le-leb (p + 10) (length line) room)
+    (⊎-elim
+    (λ (less : p + 10 < length line).
+    let here : getD (drop p line) 10 0 ≡ space = ap (λ (n : ℕ). getD (drop p line) n 0) (sym e) ∙ stops (drop p line) (omega arith) in
+    second-of (eqb (p + 10) (length line)) (eqb (getD line (p + 10) 0) space) (eq-eqb (getD line (p + 10) 0) space (sym (getD-drop p line 10 0) ∙ here)))
+    (λ (all : length line ≤ p + 10). first-of (eqb (p + 10) (length line)) (eqb (getD line (p + 10) 0) space) (eq-eqb (p + 10) (length line) (omega arith)))
+    (below-or-not (p + 10) (length line)))
 
-  pub date-told : (r : DayNumber) (d : ℕ) → p ≤ length line → r ≡ dayIn (take (end - p) (drop p line)) → r ≡ Day d → record { value = d; next = end + 1 } ≡ argumentAt aDate line p
+ten-word : (line : List ℕ) (p : ℕ) → length (wordAt line p) ≡ 10 → wordAt line p ≡ take 10 (drop p line)
+ten-word line p e = sym (word-start (drop p line)) ∙ ap (λ (n : ℕ). take n (drop p line)) e
+
+-- no digit and no dash is a space
+free : List ℕ → Bool
+free [] = true
+free (b ∷ bs) = not (eqb b space) && free bs
+
+free-digits : (l : List ℕ) → areDigits l ≡ true → free l ≡ true
+unfolding free areDigits
+free-digits [] e = refl
+free-digits (b ∷ bs) e =
+    let h = both (isDigit b) (areDigits bs) e in
+    let g = orders 48 b b 57 (h .0) in
+    rw (ne-eqb b space (λ k. omega arith), free-digits bs (h .1))
+
+free-append : (v w : List ℕ) → free v ≡ true → free w ≡ true → free (v ++ w) ≡ true
+unfolding free
+free-append [] w e f = f
+free-append (b ∷ v) w e f = let h = both (not (eqb b space)) (free v) e in rw (h .0, free-append v w (h .1) f)
+
+dashed-parts : (w : Word) → length w ≡ 10 → w ≡ part 0 4 w ++ (getD w 4 0 ∷ (part 5 2 w ++ (getD w 7 0 ∷ part 8 2 w)))
+dashed-parts w long =
+    let rest = length-drop 5 w in
+    let last = length-drop 8 w in
+    let middle : drop 5 w ≡ part 5 2 w ++ (getD w 7 0 ∷ part 8 2 w) =
+    split-at (drop 5 w) 2 0 (omega arith) ∙ rw (getD-drop 5 w 2 0, drop-drop 3 5 w, take-all 2 (drop 8 w) (omega arith)) in
+    split-at w 4 0 (omega arith) ∙ ap (λ (l : Word). part 0 4 w ++ (getD w 4 0 ∷ l)) middle
+
+dash-free : (b : ℕ) (l : List ℕ) → eqb b dash ≡ true → free l ≡ true → free (b ∷ l) ≡ true
+unfolding free
+dash-free b l e f = rw (eqb-true b dash e, f)
+
+dashed-free : (w : Word) → isDashed w ≡ true → free w ≡ true
+dashed-free w t =
+    let a = both (eqb (length w) 10 && areDigits (part 0 4 w) && eqb (getD w 4 0) dash && areDigits (part 5 2 w) && eqb (getD w 7 0) dash) (areDigits (part 8 2 w)) t in
+    let b = both (eqb (length w) 10 && areDigits (part 0 4 w) && eqb (getD w 4 0) dash && areDigits (part 5 2 w)) (eqb (getD w 7 0) dash) (a .0) in
+    let c = both (eqb (length w) 10 && areDigits (part 0 4 w) && eqb (getD w 4 0) dash) (areDigits (part 5 2 w)) (b .0) in
+    let d = both (eqb (length w) 10 && areDigits (part 0 4 w)) (eqb (getD w 4 0) dash) (c .0) in
+    let e = both (eqb (length w) 10) (areDigits (part 0 4 w)) (d .0) in
+    let day = dash-free (getD w 7 0) (part 8 2 w) (b .1) (free-digits (part 8 2 w) (a .1)) in
+    let month = dash-free (getD w 4 0) (part 5 2 w ++ (getD w 7 0 ∷ part 8 2 w)) (d .1) (free-append (part 5 2 w) (getD w 7 0 ∷ part 8 2 w) (free-digits (part 5 2 w) (c .1)) day) in
+    ap free (dashed-parts w (eqb-true (length w) 10 (e .0))) ∙ free-append (part 0 4 w) (getD w 4 0 ∷ (part 5 2 w ++ (getD w 7 0 ∷ part 8 2 w))) (free-digits (part 0 4 w) (e .1)) month
+
+-- bytes without a space, with a space or the end after them, are a word
+first-free : (m : ℕ) (l : List ℕ) → free (take m l) ≡ true → (length l ≤ m) ⊎ (getD l m 0 ≡ space) → firstWord l ≡ take m l
+unfolding free firstWord
+first-free zero [] e h = refl
+first-free zero (b ∷ bs) e h = ⊎-elim (λ k. absurd (omega arith)) (λ k. rw (eq-eqb b space k)) h
+first-free (suc m) [] e h = refl
+first-free (suc m) (b ∷ bs) e h =
+    let g = both (not (eqb b space)) (free (take m bs)) e in
+    rw (not-true (eqb b space) (g .0), first-free m bs (g .1) (⊎-elim (λ k. inl (omega arith)) (λ k. inr k) h))
+
+-- the test of the ten bytes, as it is made
+pub ten-none : (line : List ℕ) (p : ℕ) → length line < p + 10 → false ≡ tenThere line p
+ten-none line p h = rw (lt-leb (p + 10) (length line) h)
+
+pub ten-last : (line : List ℕ) (p : ℕ) → p + 10 ≡ length line → true ≡ tenThere line p
+ten-last line p h = rw (le-leb (p + 10) (length line) (omega arith), eq-eqb (p + 10) (length line) h)
+
+pub ten-within : (n p : ℕ) → p ≤ n → 10 ≤ n - p → (n - p ≡ 10 → ⊥) → p + 10 < n
+ten-within n p h k d = ⊎-elim (λ (less : 10 < n - p). omega arith) (λ (more : n - p ≤ 10). absurd (d (omega arith))) (below-or-not 10 (n - p))
+
+pub ten-before : (line : List ℕ) (p : ℕ) → p + 10 < length line → eqb (getD line (p + 10) 0) space ≡ tenThere line p
+ten-before line p h = rw (le-leb (p + 10) (length line) (omega arith), ne-eqb (p + 10) (length line) (λ e. omega arith))
+
+module _ (line : List ℕ) (p : ℕ) (t : Bool) (e : t ≡ tenThere line p) where
+  pub date-not-there : not t ≡ true → notRead line ≡ argumentAt aDate line p
+  unfolding isA
+  date-not-there n =
+      not-found aDate line p (fails (isDateWord (wordAt line p)) (λ d.
+      let h = both (isDashed (wordAt line p)) (isDate (dateIn (wordAt line p))) d in
+      false≢true (sym (not-true t n) ∙ e ∙ ten-stands line p (dashed-long (wordAt line p) (h .0)))))
+
+  pub ten-room : not t ≡ false → p + 10 ≤ length line
+  ten-room n =
+      leb-true (p + 10) (length line) (both (leb (p + 10) (length line)) (eqb (p + 10) (length line) || eqb (getD line (p + 10) 0) space) (sym e ∙ not-false t n) .0)
+
+  ten-ends : not t ≡ false → (length (drop p line) ≤ 10) ⊎ (getD (drop p line) 10 0 ≡ space)
+  ten-ends n =
+      let h = both (leb (p + 10) (length line)) (eqb (p + 10) (length line) || eqb (getD line (p + 10) 0) space) (sym e ∙ not-false t n) in
+      ⊎-elim
+      (λ k. inl (omega (arith, eqb-true (p + 10) (length line) k, length-drop p line)))
+      (λ k. inr (getD-drop p line 10 0 ∙ eqb-true (getD line (p + 10) 0) space k))
+      (either (eqb (p + 10) (length line)) (eqb (getD line (p + 10) 0) space) (h .1))
+
+  ten-part : take (p + 10 - p) (drop p line) ≡ take 10 (drop p line)
+  ten-part = let ten : p + 10 - p ≡ 10 = omega arith in rw ten
+
+  pub date-lacking : (r : DayNumber) → r ≡ dayIn (take (p + 10 - p) (drop p line)) → r ≡ NoSuchDate → notRead line ≡ argumentAt aDate line p
+  unfolding isA
+  date-lacking r q n =
+      not-found aDate line p (fails (isDateWord (wordAt line p)) (λ d.
+      let h = both (isDashed (wordAt line p)) (isDate (dateIn (wordAt line p))) d in
+      let word = ten-word line p (dashed-long (wordAt line p) (h .0)) in
+      false≢true (sym (lacking (wordAt line p) (sym n ∙ q ∙ ap (λ (w : Word). dayIn w) (ten-part ∙ sym word))) ∙ d)))
+
+  pub date-told : (r : DayNumber) (d : ℕ) → not t ≡ false → r ≡ dayIn (take (p + 10 - p) (drop p line)) → r ≡ Day d → record { value = d; next = p + 10 + 1 } ≡ argumentAt aDate line p
   unfolding isA value
-  date-told r d inside q n =
-      let h = dated (wordAt line p) d (sym n ∙ q ∙ ap (λ (w : Word). dayIn w) (cut-out line p end e)) in
-      rw (h .1, e) (sym (found aDate line p inside (h .0)))
+  date-told r d n q k =
+      let h = dated (take 10 (drop p line)) d (sym k ∙ q ∙ ap (λ (w : Word). dayIn w) ten-part) in
+      let g = both (isDashed (take 10 (drop p line))) (isDate (dateIn (take 10 (drop p line)))) (h .0) in
+      let word : wordAt line p ≡ take 10 (drop p line) = first-free 10 (drop p line) (dashed-free (take 10 (drop p line)) (g .0)) (ten-ends n) in
+      let long : length (wordAt line p) ≡ 10 = ap length word ∙ dashed-long (take 10 (drop p line)) (g .0) in
+      let is : isDateWord (wordAt line p) ≡ true = ap (λ (w : Word). isDateWord w) word ∙ h .0 in
+      rw (h .1, ← word, ← long) (sym (found aDate line p (omega (arith, ten-room n)) is))
 
 -- the day in a word of ten bytes
 module _ (w : Word) (long : length w ≡ 10) (y m d : Digits) (p : y ≡ digitsOf (part 0 4 w)) (q : m ≡ digitsOf (part 5 2 w)) (r : d ≡ digitsOf (part 8 2 w)) where

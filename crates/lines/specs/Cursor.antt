@@ -1,7 +1,7 @@
 -- How the code goes through a line: from a place to the end of the word there, and on to the place after it.
 -- Nothing here has to be believed: the promise of `parse` speaks of `Lines` alone, and its proof shows that both agree.
 use Prim.Native.Nat.{ℕ, _+_}
-use mathlib.Core.Bool.{Bool, _&&_, not, cond}
+use mathlib.Core.Bool.{Bool, _&&_, _||_, not, cond}
 use mathlib.Core.List.{List, [], _∷_}
 use lib.Dec.{leb, ltb, eqb}
 use lib.ListN.{length, getD, drop}
@@ -35,6 +35,10 @@ wordsFrom line place = cond (leb place (length line)) (words (drop place line)) 
 
 abbrev pub digitsOf : Word → Digits
 digitsOf w = record { value = number w; all = areDigits w }
+
+-- Ten bytes stand at a place, and after them a space or the line's end.
+abbrev pub tenThere : List ℕ → ℕ → Bool
+tenThere line place = leb (place + 10) (length line) && (eqb (place + 10) (length line) || eqb (getD line (place + 10) 0) space)
 
 abbrev pub dayIn : Word → DayNumber
 dayIn w = cond (isDashed w) (dayOf (dateIn w)) NoSuchDate

@@ -10,7 +10,7 @@ ghost use mathlib.Core.Path.{_≡_};
 ghost use Prim.Native.Nat.{_≤_};
 ghost use lib.ListN.{length};
 ghost use Rattle.lines.specs.Lines.{aNumber, aDate};
-ghost use Rattle.lines.specs.Cursor.{argumentAt, notRead, dayIn, boxAt};
+ghost use Rattle.lines.specs.Cursor.{argumentAt, notRead, tenThere, dayIn, boxAt};
 
 // An argument that was read: its value, and the place after it.
 pub struct Argument {
@@ -45,16 +45,14 @@ pub fn number_at(line: &[u8], at: usize) -> Argument
     }
 }
 
+// A date has ten bytes, so its end is known before its bytes are read.
 pub fn date_at(line: &[u8], at: usize) -> Argument
     ensures { λ r. ⌜ r ≡ argumentAt aDate (now (line .entry)) at ⌝ }
 {
-    if line.len() < at {
+    if !ten_there(line, at) {
         return not_read(line);
     }
-    let end = word_end(line, at);
-    if end - at != 10 {
-        return not_read(line);
-    }
+    let end = at + 10;
     match day_in(&line[at..end]) {
         DayNumber::Day(day) => Argument {
             value: day as u32,
@@ -62,6 +60,23 @@ pub fn date_at(line: &[u8], at: usize) -> Argument
         },
         DayNumber::NoSuchDate => not_read(line),
     }
+}
+
+// Whether ten bytes stand at a place, and after them a space or the line's end.
+fn ten_there(line: &[u8], at: usize) -> bool
+    ensures { λ r. ⌜ r ≡ tenThere (now (line .entry)) at ⌝ }
+{
+    if line.len() < at {
+        return false;
+    }
+    let left = line.len() - at;
+    if left < 10 {
+        return false;
+    }
+    if left == 10 {
+        return true;
+    }
+    line[at + 10] == b' '
 }
 
 // The day of a word of ten bytes, if it is a date: YYYY-MM-DD.

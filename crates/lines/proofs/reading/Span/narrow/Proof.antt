@@ -1,8 +1,5 @@
 -- `lines::reading::Span::narrow` meets its contract.
 use borrow.Author.Needs.{needs}
-use Rattle.lines.proofs.reading.Span.narrow.Reads as reads
-use Rattle.lines.proofs.reading.Span.narrow.Lts as lts
-use Rattle.lines.proofs.reading.narrow.Reads as narrow-reads
 use Rattle.lines.proofs.reading.Span.narrow.Statement.{statement}
 use Rattle.lines.proofs.reading.Span.narrow.Tie as tie
 

@@ -1,8 +1,5 @@
 -- `lines::reading::Typed::narrow` meets its contract.
 use borrow.Author.Needs.{needs}
-use Rattle.lines.proofs.reading.Typed.narrow.Reads as reads
-use Rattle.lines.proofs.reading.Typed.narrow.Lts as lts
-use Rattle.lines.proofs.reading.Span.narrow.Reads as narrow-reads
 use Rattle.lines.proofs.reading.Typed.narrow.Statement.{statement}
 use Rattle.lines.proofs.reading.Typed.narrow.Tie as tie
 
