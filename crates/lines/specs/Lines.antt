@@ -26,7 +26,7 @@ space = 32
 abbrev pub dash : ℕ
 dash = 45
 
--- Words are parted by one space. A space ends an empty word; any other byte is the first of the word that follows.
+-- Words are parted by one space. Before the words of what follows, a space puts an empty word; any other byte goes to the front of the first.
 unfoldable pub withByte : Bool → ℕ → List Word → List Word
 withByte true b ws = [] ∷ ws
 withByte false b [] = (b ∷ []) ∷ []
@@ -134,6 +134,10 @@ command w ws =
 unfoldable pub commandOf : List Word → Line
 commandOf [] = Refused
 commandOf (w ∷ ws) = command w ws
+
+-- The number of the refusal that a line is refused by.
+abbrev pub lineRefusal : ℕ
+lineRefusal = 9
 
 -- Lines of at most 80 bytes; a longer one is refused.
 abbrev pub longestLine : ℕ
