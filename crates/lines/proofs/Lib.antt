@@ -1,0 +1,4 @@
+mod Turns
+mod Places
+mod Told
+mod Fills
