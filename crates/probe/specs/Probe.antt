@@ -5,6 +5,7 @@ use lib.ListN.{getD}
 use Rattle.asking.specs.Asking.{asked}
 use Rattle.asking.specs.declared.Asked.{Asked}
 use Rattle.asking.specs.declared.Asked.the-variants.{Refused, Nothing, Gust}
+use Rattle.ground.specs.declared.boxes.Box.{Box}
 use Rattle.pages.specs.declared.Small.{Small}
 use Rattle.wellformed.specs.WellFormed.{checked}
 use Rattle.wellformed.specs.declared.verdict.Checked.{Checked}
@@ -24,10 +25,12 @@ packed (Refused number) = number
 packed (Nothing pages) = pages * 4_294_967_296
 packed (Gust gust pages) = (gust + 1) * 256 + pages * 4_294_967_296
 
+abbrev pub boxOf : ℕ → ℕ → ℕ → ℕ → ℕ → ℕ → Box
+boxOf e0 e1 n0 n1 d0 d1 = record { east = record { low = e0; high = e1 }; north = record { low = n0; high = n1 }; day = record { low = d0; high = d1 } }
+
 abbrev pub askedNumber : List ℕ → ℕ → ℕ → ℕ → ℕ → ℕ → ℕ → ℕ → ℕ → ℕ
 askedNumber t root height e0 e1 n0 n1 d0 d1 =
-    packed (asked t (record { root = root; height = height; accepted = 0; struck = 0; covered = 0 })
-    (record { east = record { low = e0; high = e1 }; north = record { low = n0; high = n1 }; day = record { low = d0; high = d1 } }))
+    packed (asked t (record { root = root; height = height; accepted = 0; struck = 0; covered = 0 }) (boxOf e0 e1 n0 n1 d0 d1))
 
 -- The small record as five numbers.
 abbrev pub smallOf : List ℕ → Small

@@ -10,8 +10,8 @@ use recording::Reply;
 use wellformed::Checked;
 ghost use mathlib.Core.Path.{_≡_};
 ghost use Prim.Native.Nat.{_≤_};
-ghost use Rattle.recording.specs.RecordSteps.{SoundSmall};
-ghost use Rattle.probe.specs.Probe.{checkedNumber, askedNumber, packed, smallOf};
+ghost use Rattle.recording.specs.RecordLaws.{Accepted};
+ghost use Rattle.probe.specs.Probe.{checkedNumber, askedNumber, packed, boxOf, smallOf};
 
 // 0 for a damaged book, else the number of held records and one more.
 #[no_mangle]
@@ -223,7 +223,7 @@ pub extern "C" fn gust_probe_recorded(
     day_high: u16,
     gust: u16,
 ) -> u64
-    requires { ⌜ SoundSmall (now table) (smallOf (now numbers)) ⌝ }
+    requires { ⌜ Accepted (now table) (smallOf (now numbers)) (boxOf «east_low» «east_high» «north_low» «north_high» «day_low» «day_high») gust ⌝ }
 {
     let east = Range {
         low: east_low,
