@@ -20,10 +20,12 @@ use pages::Small;
 pub use sound::recorded;
 
 // What is being recorded: the box as already cut, whether it was cut, and whether a candidate covers it.
+// It is copied at every page, and sixteen bytes are copied at once: the spare word, which means nothing, fills them up.
 pub struct Sought {
     pub place: Box,
     pub cut: bool,
     pub covered: bool,
+    pub spare: u16,
 }
 
 // What became of a page: it stands; it was split, and this page took the second group; it was left with no entry;

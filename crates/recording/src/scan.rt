@@ -18,6 +18,7 @@ impl Sought {
             place: b,
             cut: false,
             covered: false,
+            spare: 0,
         }
     }
 
@@ -31,12 +32,14 @@ impl Sought {
                     place,
                     cut: self.cut,
                     covered: true,
+                    spare: 0,
                 }
             }
             Cut::Left(b) => Sought {
                 place: b,
                 cut: true,
                 covered: self.covered,
+                spare: 0,
             },
             Cut::Unchanged => self,
         }
