@@ -107,7 +107,7 @@ walk-down-come-back-requires : (t : ℕ) → walk-down-lts.Need-come-back-requir
   more-struck-reads.Asked,
   more-struck-reads.Learnt,
 ) (walk-down-at t) walk-down.Post
-walk-down-come-back-requires t c κs = may-come-back _ _ _ (c .before .before .before .before .before .before .before .before .before .before .before .before .before .before .args .p) (c .before .before .before .before .before .before .before .before .before .before .before .at-page .last .0) (c .before .before .before .walk-down .last .0) (c .before .before .before .before .before .before .before .before .before .before .before .before .before .before .args .q .now) _ (c .before .before .before .walk-down .result) (may-go-down (c .before .before .before .before .before .before .before .before .before .before .before .before .before .before .args .n) (c .before .before .before .before .before .before .before .before .before .before .before .before .before .before .args .v) (c .before .before .before .before .before .before .before .before .before .before .before .before .before .before .args .p) (c .before .before .before .before .before .before .before .before .before .before .before .before .before .before .args .t .now) (c .before .before .before .before .before .before .before .before .before .before .before .at-page .last .0) (c .before .before .before .before .before .before .before .before .before .before .before .before .before .before .args .q .now) (c .before .before .before .before .before .before .before .before .before .before .before .before .before .before .args .s) (c .before .before .before .before .before .before .before .before .before .before .before .at-page .result) (c .before .before .before .before .before .before .before .before .before .before .before .before .before .before .pre .1) (c .before .before .before .before .before .before .before .before .before .before .before .at-page .ensures)) (c .before .before .before .walk-down .ensures)
+walk-down-come-back-requires t c κs = may-come-back _ _ _ (c .before .before .before .before .before .before .before .before .before .before .before .before .before .before .args .p) (c .before .before .before .before .before .before .before .before .before .before .before .at-page .last .0) (c .before .before .before .walk-down .last .0) (c .before .before .before .before .before .before .before .before .before .before .before .before .before .before .args .q .now) (c .before .before .before .before .before .before .before .before .before .before .before .at-page .result .sought) (c .before .before .before .walk-down .result) (may-go-down (c .before .before .before .before .before .before .before .before .before .before .before .before .before .before .args .n) (c .before .before .before .before .before .before .before .before .before .before .before .before .before .before .args .v) (c .before .before .before .before .before .before .before .before .before .before .before .before .before .before .args .p) (c .before .before .before .before .before .before .before .before .before .before .before .before .before .before .args .t .now) (c .before .before .before .before .before .before .before .before .before .before .before .at-page .last .0) (c .before .before .before .before .before .before .before .before .before .before .before .before .before .before .args .q .now) (c .before .before .before .before .before .before .before .before .before .before .before .before .before .before .args .s) (c .before .before .before .before .before .before .before .before .before .before .before .at-page .result) (c .before .before .before .before .before .before .before .before .before .before .before .before .before .before .pre .1) (c .before .before .before .before .before .before .before .before .before .before .before .at-page .ensures)) (c .before .before .before .walk-down .ensures)
 
 walk-down-more-struck-requires : (t : ℕ) → walk-down-lts.Need-more-struck-requires (
   at-page-reads.Asked,
