@@ -21,7 +21,7 @@ use Rattle.pages.specs.declared.Small.{Small}
 use Rattle.wellformed.specs.WellFormed.{heldRecords, wellFormed, checked}
 use Rattle.wellformed.specs.declared.verdict.Checked.{Checked}
 use Rattle.wellformed.specs.declared.verdict.Checked.the-variants.{Held, Damaged}
-use Rattle.recording.specs.Record.{firstOf}
+use Rattle.rules.specs.Record.{firstOf}
 use Rattle.recording.specs.RefusalSteps.{well-held, well-damaged}
 use Rattle.index.specs.declared.Counted.{Counted}
 use Rattle.index.specs.declared.Counted.the-variants.{Refused, Counts}

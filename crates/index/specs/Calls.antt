@@ -11,7 +11,7 @@ use Rattle.pages.specs.Free.{emptyTable, emptySmall}
 use Rattle.pages.specs.Layout.{pageWords, pagesIn, tableFits, pagesOf}
 use Rattle.pages.specs.declared.Small.{Small}
 use Rattle.wellformed.specs.WellFormed.{heldRecords, wellFormed}
-use Rattle.recording.specs.Record.{firstOf}
+use Rattle.rules.specs.Record.{firstOf}
 use Rattle.index.specs.declared.Counted.{Counted}
 use Rattle.index.specs.declared.Counted.the-variants.{Refused, Counts}
 

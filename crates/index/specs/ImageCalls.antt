@@ -20,7 +20,7 @@ use Rattle.pages.specs.declared.Page.{Page}
 use Rattle.pages.specs.declared.Small.{Small}
 use Rattle.wellformed.specs.Parts.{parts}
 use Rattle.wellformed.specs.WellFormed.{page, heldRecords, wellFormed, mostAccepted, rootStands, countsStand}
-use Rattle.recording.specs.Record.{firstOf}
+use Rattle.rules.specs.Record.{firstOf}
 use Rattle.index.specs.Calls.{Left, Saved, unchanged, emptyBook, saveRefusal, saved, imageRefusal, pagesRefusal, imageSmall, loadedPages, loaded}
 
 -- a well-formed book of 16-bit words has room in the trailer

@@ -17,10 +17,10 @@ use Rattle.pages.specs.declared.Entry.{Entry}
 use Rattle.pages.specs.declared.Small.{Small}
 use Rattle.split.specs.Split.{pageFrom}
 use Rattle.wellformed.specs.WellFormed.{everyBelow, times, children, walk, leafEntries, heldRecords, rootStands, isLower, childrenLower, reachedOnce, countStands, leafEntryStands, isExact, entriesStand, pageStands, countsStand, pagesStand, wellFormed}
-use Rattle.recording.specs.Strike.{select, strikeAll, strikeOne, strike}
-use Rattle.recording.specs.Scan.{candidate, scanEntry, scan}
-use Rattle.recording.specs.Recording.{growth, goesBefore, leastGrown, choose, leafEntry, splitPage, settle, exactAt, comeBack, append, goDown, goOn, atPage, walkDown, fromRoot, collapse, Outcome, Outcome.Kept, Outcome.Cut, Outcome.Covered, recorded}
-use Rattle.recording.specs.Record.{Called, Reply.Refused, Reply.Answered, refusal, recordInto, refused}
+use Rattle.rules.specs.Strike.{select, strikeAll, strikeOne, strike}
+use Rattle.rules.specs.Scan.{candidate, scanEntry, scan}
+use Rattle.rules.specs.Recording.{growth, goesBefore, leastGrown, choose, leafEntry, splitPage, settle, exactAt, comeBack, append, goDown, goOn, atPage, walkDown, fromRoot, collapse, Outcome, Outcome.Kept, Outcome.Cut, Outcome.Covered, recorded}
+use Rattle.rules.specs.Record.{Called, Reply.Refused, Reply.Answered, refusal, recordInto, refused}
 use Rattle.index.specs.Calls.{counted}
 use Rattle.index.specs.declared.Counted.the-variants.{Counts}
 -- The dates: 1880-03-01 is day 60; 1900-01-01 is 7,305; 2039-12-31 is 58,439.
@@ -28,7 +28,7 @@ pub use Rattle.ground.specs.Examples.{first-of-march, new-century, last-day}
 -- Held 15 to 20, new 10 to 29 weaker, other axes equal: not cut.
 pub use Rattle.ground.specs.Examples.{two-ends-stay}
 -- Nine records in a row: the pages, the root, and the two questions there.
-pub use Rattle.recording.specs.Examples.{nine-in-a-row}
+pub use Rattle.rules.specs.Examples.{nine-in-a-row}
 pub use Rattle.asking.specs.Examples.{between, across}
 
 -- a box by its six numbers: 1900-01-01 is day 7,305

@@ -15,8 +15,8 @@ use Rattle.pages.specs.Layout.{tableFits, pagesOf}
 use Rattle.pages.specs.declared.Entry.{Entry}
 use Rattle.pages.specs.declared.Small.{Small}
 use Rattle.wellformed.specs.WellFormed.{heldRecords, wellFormed}
-use Rattle.recording.specs.Record.{refusal, recordInto}
-use Rattle.recording.specs.Recording.{leafEntry}
+use Rattle.rules.specs.Record.{refusal, recordInto}
+use Rattle.rules.specs.Recording.{leafEntry}
 use Rattle.index.specs.Calls.{cleared, loaded, imageSmall}
 
 -- A call with its arguments: any box, gust, image and buffer.

@@ -23,10 +23,10 @@ use Rattle.pages.specs.declared.Page.{Page}
 use Rattle.pages.specs.declared.Small.{Small}
 use Rattle.wellformed.specs.Parts.{parts}
 use Rattle.wellformed.specs.WellFormed.{heldRecords, wellFormed, walk, leafEntries, children}
-use Rattle.recording.specs.EmptyBook.{empty-well-formed}
-use Rattle.recording.specs.Record.{firstOf, refusal, recordInto}
-use Rattle.recording.specs.RecordLaws.{not-refused, refused-law, answered-law, record-law}
-use Rattle.recording.specs.Recording.{recorded, leafEntry}
+use Rattle.rules.specs.EmptyBook.{empty-well-formed}
+use Rattle.rules.specs.Record.{firstOf, refusal, recordInto}
+use Rattle.rules.specs.RecordLaws.{not-refused, refused-law, answered-law, record-law}
+use Rattle.rules.specs.Recording.{recorded, leafEntry}
 use Rattle.index.specs.Calls.{Left, unchanged, emptyBook, cleared, loaded, loadedPages, imageRefusal, pagesRefusal, imageSmall}
 use Rattle.index.specs.Run.{Call, Call.Clear, Call.Record, Call.Ask, Call.Count, Call.Save, Call.Load, Book, held, Moment, turn, run, Answers, Good}
 

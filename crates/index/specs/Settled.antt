@@ -8,8 +8,8 @@ use Rattle.asking.specs.declared.Asked.{Asked}
 use Rattle.ground.specs.declared.boxes.Box.{Box}
 use Rattle.pages.specs.declared.Small.{Small}
 use Rattle.recording.specs.CallSteps.{calledOf, replyOf}
-use Rattle.recording.specs.Record.{Reply, Reply.Refused, Reply.Answered, recordInto}
-use Rattle.recording.specs.Recording.{Answer}
+use Rattle.rules.specs.Record.{Reply, Reply.Refused, Reply.Answered, recordInto}
+use Rattle.rules.specs.Recording.{Answer}
 use Rattle.recording.specs.declared.Called as code-called
 use Rattle.recording.specs.declared.Outcome as code-outcome
 use Rattle.recording.specs.declared.Reply as code-reply

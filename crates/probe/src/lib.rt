@@ -10,7 +10,7 @@ use recording::Reply;
 use wellformed::Checked;
 ghost use mathlib.Core.Path.{_≡_};
 ghost use Prim.Native.Nat.{_≤_};
-ghost use Rattle.recording.specs.RecordLaws.{Accepted};
+ghost use Rattle.rules.specs.RecordLaws.{Accepted};
 ghost use Rattle.probe.specs.Probe.{checkedNumber, askedNumber, packed, boxOf, smallOf};
 
 // 0 for a damaged book, else the number of held records and one more.

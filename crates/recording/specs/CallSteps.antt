@@ -16,16 +16,16 @@ use Rattle.recording.specs.declared.Called as code-called
 use Rattle.recording.specs.declared.Reply as code-reply
 use Rattle.recording.specs.declared.Reply.the-variants as say
 use Rattle.recording.specs.declared.Sought as code-sought
-use Rattle.recording.specs.Book.{before}
-use Rattle.recording.specs.FromRoot.{root-level}
-use Rattle.recording.specs.FromWellFormed.{book, all-tidy}
+use Rattle.rules.specs.Book.{before}
+use Rattle.rules.specs.FromRoot.{root-level}
+use Rattle.rules.specs.FromWellFormed.{book, all-formed}
 use Rattle.recording.specs.LookSteps.{Within}
-use Rattle.recording.specs.Record.{Reply, Reply.Refused, Reply.Answered, Called, refusal, answered, refused, recordInto}
-use Rattle.recording.specs.RecordLaws.{Accepted, not-refused, refused-law, answered-law, conditions-of, few}
-use Rattle.recording.specs.Recording.{recorded, fromRoot}
+use Rattle.rules.specs.Record.{Reply, Reply.Refused, Reply.Answered, Called, refusal, answered, refused, recordInto}
+use Rattle.rules.specs.RecordLaws.{Accepted, not-refused, refused-law, answered-law, conditions-of, few}
+use Rattle.rules.specs.Recording.{recorded, fromRoot}
 use Rattle.recording.specs.RecordSteps.{outcomeIs, RootLevelFits, SmallIs, Records}
 use Rattle.recording.specs.RootSteps.{LevelFits}
-use Rattle.recording.specs.Scan.{handedIn}
+use Rattle.rules.specs.Scan.{handedIn}
 use Rattle.recording.specs.TableSteps.{still-fits}
 use Rattle.recording.specs.TidyLaws.{Tidied}
 use Rattle.recording.specs.Views.{mostStruck, soughtOf}
@@ -93,4 +93,5 @@ module _ (t : List ℕ) (s : Small) (b : Box) (v n : ℕ) (e : n ≡ refusal t s
 pub may-walk-from-root : (t : List ℕ) (s : Small) (b : Box) (v : ℕ) (x : code-sought.Sought) → Accepted t s b v → soughtOf x ≡ handedIn b → (tableFits t ≡ true) × Tidied (pagesOf t) × Within (x .place) (x .place)
 may-walk-from-root t s b v x a e =
     let own : x .place ≡ b = ap (λ y. y .box) e in
-    (a .fits, all-tidy (pagesOf t) s (conditions-of t s (a .sound)), subst (λ (y : Box). Within y y) (sym own) (legal-within b (a .lawful)))
+    let formed = all-formed (pagesOf t) s (conditions-of t s (a .sound)) in
+    (a .fits, λ p. record { is = formed p .0; most = formed p .1 }, subst (λ (y : Box). Within y y) (sym own) (legal-within b (a .lawful)))

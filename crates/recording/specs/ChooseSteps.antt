@@ -12,7 +12,7 @@ use Rattle.ground.specs.declared.boxes.Box.{Box}
 use Rattle.pages.specs.Layout.{zeroEntry}
 use Rattle.pages.specs.declared.Entry.{Entry}
 use Rattle.split.specs.Split.{lessOrTie}
-use Rattle.recording.specs.Recording.{growth, goesBefore, leastGrown, choose}
+use Rattle.rules.specs.Recording.{growth, goesBefore, leastGrown, choose}
 use Rattle.recording.specs.declared.choose.Choice.{Choice}
 
 abbrev pub choiceOf : Box → Entry → ℕ → Choice

@@ -25,9 +25,9 @@ use Rattle.pages.specs.declared.Entry.{Entry}
 use Rattle.pages.specs.declared.Page.{Page}
 use Rattle.recording.specs.declared.look.Look.{Look}
 use Rattle.recording.specs.LoopLaws.{select-turn, select-end}
-use Rattle.recording.specs.Scan.{Sought, met, meets, candidate, scanEntry, scan}
+use Rattle.rules.specs.Scan.{Sought, met, meets, candidate, scanEntry, scan}
 use Rattle.recording.specs.ScanSteps.{scanFrom, scan-start, scan-turn, scan-end}
-use Rattle.recording.specs.Strike.{isStruck, consIf, select, struckOf, rest, Struck, strikeAll, strikeOne, strike}
+use Rattle.rules.specs.Strike.{isStruck, consIf, select, struckOf, rest, Struck, strikeAll, strikeOne, strike}
 use Rattle.recording.specs.StrikeSteps.{used-at}
 use Rattle.recording.specs.Views.{soughtOf}
 

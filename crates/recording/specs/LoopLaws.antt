@@ -11,9 +11,9 @@ use Rattle.ground.specs.declared.boxes.Box.{Box}
 use Rattle.pages.specs.Layout.{zeroEntry}
 use Rattle.pages.specs.declared.Entry.{Entry}
 use Rattle.pages.specs.declared.Page.{Page}
-use Rattle.recording.specs.Recording.{goesBefore, leastGrown}
-use Rattle.recording.specs.Scan.{Sought, scanEntry, scan}
-use Rattle.recording.specs.Strike.{consIf, select, Struck, strikeAll}
+use Rattle.rules.specs.Recording.{goesBefore, leastGrown}
+use Rattle.rules.specs.Scan.{Sought, scanEntry, scan}
+use Rattle.rules.specs.Strike.{consIf, select, Struck, strikeAll}
 
 -- the scan: what is left to meet
 module _ (n v : ℕ) (es : List Entry) where

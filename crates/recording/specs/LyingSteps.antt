@@ -19,8 +19,8 @@ use Rattle.wellformed.specs.WellFormed.{page}
 use Rattle.recording.specs.declared.Became as code-became
 use Rattle.recording.specs.declared.Became.the-variants as case
 use Rattle.recording.specs.PageSteps.{Tidy, level-is, in-use-is, count-is, pushed, put-there}
-use Rattle.recording.specs.Recording.{Became, Became.stands, settleBy, settle, splitPage, intoPage, exactAt}
-use Rattle.recording.specs.Scan.{handedIn}
+use Rattle.rules.specs.Recording.{Became, Became.stands, settleBy, settle, splitPage, intoPage, exactAt}
+use Rattle.rules.specs.Scan.{handedIn}
 use Rattle.recording.specs.SettleSteps.{Settled, settledBy, settled, Settles, settled-few, own-tidy, one-more-tidy, came-standing, came-split, cameBack}
 use Rattle.recording.specs.TableSteps.{UsedAt}
 use Rattle.recording.specs.TidyLaws.{TidyPage, exact-length, tidy-from}

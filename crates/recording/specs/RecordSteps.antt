@@ -13,8 +13,8 @@ use Rattle.recording.specs.declared.Walked as code-walked
 use Rattle.recording.specs.declared.Outcome as code-outcome
 use Rattle.recording.specs.declared.Outcome.the-variants as case
 use Rattle.recording.specs.declared.Answered as code-answered
-use Rattle.recording.specs.Scan.{Sought, handedIn}
-use Rattle.recording.specs.Recording.{Walked, fromRoot, putRootRight, collapse, Outcome, Outcome.Kept, Outcome.Cut, Outcome.Covered, outcomeOf, Recorded, recorded}
+use Rattle.rules.specs.Scan.{Sought, handedIn}
+use Rattle.rules.specs.Recording.{Walked, fromRoot, putRootRight, collapse, Outcome, Outcome.Kept, Outcome.Cut, Outcome.Covered, outcomeOf, Recorded, recorded}
 use Rattle.recording.specs.RootSteps.{Roots, RootsIf, LevelFits}
 use Rattle.recording.specs.Views.{mostStruck, soughtOf, becameOf, Walks}
 

@@ -19,7 +19,7 @@ use Rattle.wellformed.specs.Parts.{parts}
 use Rattle.wellformed.specs.WellFormed.{wellFormed, mostAccepted, heldRecords, checked, rootStands, countsStand, page}
 use Rattle.wellformed.specs.declared.verdict.Checked.{Checked}
 use Rattle.wellformed.specs.declared.verdict.Checked.the-variants.{Held, Damaged}
-use Rattle.recording.specs.Record.{refusal}
+use Rattle.rules.specs.Record.{refusal}
 use Rattle.recording.specs.RecordSteps.{SoundSmall}
 
 -- whether the check found the book well-formed

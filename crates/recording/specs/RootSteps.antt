@@ -18,8 +18,8 @@ use Rattle.wellformed.specs.WellFormed.{page}
 use Rattle.recording.specs.declared.Became as code-became
 use Rattle.recording.specs.declared.Became.the-variants as case
 use Rattle.recording.specs.declared.Walked as code-walked
-use Rattle.recording.specs.Scan.{Sought}
-use Rattle.recording.specs.Recording.{leafEntry, Became, Became.stands, Became.split, Became.emptied, Became.again, Walked, walkDown, startAgainBy, plusStruck, fromRoot, Rooted, newRootAt, putRootRight, oneEntry, collapseBy, collapse}
+use Rattle.rules.specs.Scan.{Sought}
+use Rattle.rules.specs.Recording.{leafEntry, Became, Became.stands, Became.split, Became.emptied, Became.again, Walked, walkDown, startAgainBy, plusStruck, fromRoot, Rooted, newRootAt, putRootRight, oneEntry, collapseBy, collapse}
 use Rattle.recording.specs.WalkSteps.{MayWalk, may-walk-on}
 use Rattle.recording.specs.Views.{Leaves, mostStruck, soughtOf, becameOf, Walks}
 

@@ -14,7 +14,7 @@ use Rattle.ground.specs.declared.boxes.Box.{Box}
 use Rattle.ground.specs.declared.boxes.Cut.{Cut}
 use Rattle.pages.specs.Layout.{zeroEntry}
 use Rattle.pages.specs.declared.Entry.{Entry}
-use Rattle.recording.specs.Scan.{Sought, met, meets, candidate, scanEntry, scan}
+use Rattle.rules.specs.Scan.{Sought, met, meets, candidate, scanEntry, scan}
 
 pub is-covered : (s : Sought) (c : Bool) (x : Box) → s .isCovered ≡ true → s ≡ candidate c x s
 unfolding candidate

@@ -22,8 +22,8 @@ use Rattle.split.specs.declared.filling.Halves.{Halves}
 use Rattle.wellformed.specs.WellFormed.{page}
 use Rattle.recording.specs.declared.Became as code-became
 use Rattle.recording.specs.declared.Became.the-variants as case
-use Rattle.recording.specs.Scan.{Sought, handedIn}
-use Rattle.recording.specs.Recording.{Became, Became.stands, Became.split, Became.emptied, Became.again, Walked, intoPage, splitPage, settleBy, settle, exactAt, comeBackBy, comeBack}
+use Rattle.rules.specs.Scan.{Sought, handedIn}
+use Rattle.rules.specs.Recording.{Became, Became.stands, Became.split, Became.emptied, Became.again, Walked, intoPage, splitPage, settleBy, settle, exactAt, comeBackBy, comeBack}
 use Rattle.recording.specs.PageSteps.{Tidy, in-use-is, level-is, count-is}
 use Rattle.recording.specs.StrikeSteps.{used-at}
 use Rattle.recording.specs.Views.{Leaves, becameOf}

@@ -15,7 +15,7 @@ use Rattle.pages.specs.Summary.{inUse}
 use Rattle.pages.specs.declared.Entry.{Entry}
 use Rattle.pages.specs.declared.Page.{Page}
 use Rattle.wellformed.specs.WellFormed.{page, childOf}
-use Rattle.recording.specs.Strike.{isStruck, consIf, select, struckOf, rest, Struck, strikeAll, strikeOne, strike}
+use Rattle.rules.specs.Strike.{isStruck, consIf, select, struckOf, rest, Struck, strikeAll, strikeOne, strike}
 use Rattle.recording.specs.declared.strike.Children.{Children}
 use Rattle.split.specs.Split.{pageFrom}
 use Rattle.recording.specs.TableSteps.{load-out}

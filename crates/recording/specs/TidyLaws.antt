@@ -19,9 +19,9 @@ use Rattle.split.specs.Split.{halves, pageFrom, without}
 use Rattle.split.specs.SplitLaws.{page-from-in-use, nine-halves}
 use Rattle.wellformed.specs.WellFormed.{page}
 use Rattle.recording.specs.PageSteps.{Tidy}
-use Rattle.recording.specs.Recording.{Became, Became.stands, Became.split, Became.emptied, Became.again, Walked, Walk, Next, intoPage, splitPage, settleBy, settle, exactAt, comeBackBy, comeBack, append, goDown, unlessCovered, goOn, atPage, walkDown, choose, leafEntry}
-use Rattle.recording.specs.Scan.{Sought, scan}
-use Rattle.recording.specs.Strike.{Struck, strikeAll, strikeOne, strike, struckOf, rest}
+use Rattle.rules.specs.Recording.{Became, Became.stands, Became.split, Became.emptied, Became.again, Walked, Walk, Next, intoPage, splitPage, settleBy, settle, exactAt, comeBackBy, comeBack, append, goDown, unlessCovered, goOn, atPage, walkDown, choose, leafEntry}
+use Rattle.rules.specs.Scan.{Sought, scan}
+use Rattle.rules.specs.Strike.{Struck, strikeAll, strikeOne, strike, struckOf, rest}
 use Rattle.recording.specs.StrikeSteps.{rest-few, rest-all}
 
 abbrev pub TidyPage : Page → Type 0

@@ -10,9 +10,9 @@ use Rattle.recording.specs.declared.Became as code-became
 use Rattle.recording.specs.declared.Became.the-variants as case
 use Rattle.recording.specs.declared.Sought as code-sought
 use Rattle.recording.specs.declared.Walked as code-walked
-use Rattle.recording.specs.Strike.{Struck}
-use Rattle.recording.specs.Scan.{Sought}
-use Rattle.recording.specs.Recording.{Became, Became.stands, Became.split, Became.emptied, Became.again, Walked}
+use Rattle.rules.specs.Strike.{Struck}
+use Rattle.rules.specs.Scan.{Sought}
+use Rattle.rules.specs.Recording.{Became, Became.stands, Became.split, Became.emptied, Became.again, Walked}
 
 -- A table left with these pages, as long as it was.
 pub record Leaves (before after : List ℕ) (ps : List Page) : Type 0 where

@@ -26,9 +26,9 @@ use Rattle.recording.specs.declared.walk.Went.{Went}
 use Rattle.recording.specs.declared.walk.Step.{Step}
 use Rattle.recording.specs.LookSteps.{Within, Looks, all-stand, nothing-struck}
 use Rattle.recording.specs.LyingSteps.{settledAt, own-leaves}
-use Rattle.recording.specs.Strike.{struckOf, rest, strike}
-use Rattle.recording.specs.Scan.{Sought, handedIn, scan}
-use Rattle.recording.specs.Recording.{choose, leafEntry, Became, Walked, comeBack, Walk, append, goDown, unlessCovered, goOn, atPage, walkDown, settle}
+use Rattle.rules.specs.Strike.{struckOf, rest, strike}
+use Rattle.rules.specs.Scan.{Sought, handedIn, scan}
+use Rattle.rules.specs.Recording.{choose, leafEntry, Became, Walked, comeBack, Walk, append, goDown, unlessCovered, goOn, atPage, walkDown, settle}
 use Rattle.recording.specs.PageSteps.{Tidy, in-use-is, level-is, count-is}
 use Rattle.recording.specs.SettleSteps.{passing, settled, settle-passes, Settles, cameBack, come-back-passes}
 use Rattle.recording.specs.StrikeSteps.{rest-few, rest-all}

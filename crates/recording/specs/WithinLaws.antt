@@ -20,9 +20,9 @@ use Rattle.pages.specs.declared.Page.{Page}
 use Rattle.split.specs.Split.{halves, pageFrom, without}
 use Rattle.wellformed.specs.WellFormed.{page}
 use Rattle.recording.specs.LookSteps.{Within, entry-within}
-use Rattle.recording.specs.Recording.{Became, Became.stands, Became.split, Became.emptied, Became.again, Walked, Walk, Next, exactAt, intoPage, splitPage, settleBy, settle, comeBackBy, comeBack, append, goDown, unlessCovered, goOn, atPage, walkDown, choose, leafEntry}
-use Rattle.recording.specs.Scan.{Sought, scanEntry, scan}
-use Rattle.recording.specs.Strike.{strike, rest}
+use Rattle.rules.specs.Recording.{Became, Became.stands, Became.split, Became.emptied, Became.again, Walked, Walk, Next, exactAt, intoPage, splitPage, settleBy, settle, comeBackBy, comeBack, append, goDown, unlessCovered, goOn, atPage, walkDown, choose, leafEntry}
+use Rattle.rules.specs.Scan.{Sought, scanEntry, scan}
+use Rattle.rules.specs.Strike.{strike, rest}
 
 pub legal-within : (b : Box) → legal b ≡ true → Within b b
 legal-within b e =

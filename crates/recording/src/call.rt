@@ -7,7 +7,7 @@ use ground::Box;
 use pages::Small;
 ghost use mathlib.Core.Path.{_≡_};
 ghost use Rattle.recording.specs.CallSteps.{calledOf};
-ghost use Rattle.recording.specs.Record.{recordInto};
+ghost use Rattle.rules.specs.Record.{recordInto};
 
 pub fn record(t: &mut [u16], s: Small, b: Box, v: u16) -> Called
     ensures { λ r. ⌜ calledOf (now (t .exit)) r ≡ recordInto (now (t .entry)) s b v ⌝ }

@@ -11,7 +11,7 @@ ghost use lib.Dec.{ltb};
 ghost use Rattle.pages.specs.Facts.{InTable};
 ghost use Rattle.pages.specs.Layout.{pageAt};
 ghost use Rattle.pages.specs.Summary.{inUse};
-ghost use Rattle.recording.specs.Recording.{choose};
+ghost use Rattle.rules.specs.Recording.{choose};
 ghost use Rattle.recording.specs.ChooseSteps.{choiceOf};
 
 // A place, by how much its box grows, and its size.

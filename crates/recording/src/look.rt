@@ -12,7 +12,7 @@ ghost use Rattle.pages.specs.Layout.{pageEntries, entryIn, pageAt};
 ghost use Rattle.pages.specs.Summary.{inUse};
 ghost use Rattle.sieve.specs.Sieve.{questionOf, IsSieve};
 ghost use Rattle.recording.specs.LookSteps.{onTwoAxes, Within, Looks};
-ghost use Rattle.recording.specs.Scan.{candidate};
+ghost use Rattle.rules.specs.Scan.{candidate};
 ghost use Rattle.recording.specs.Views.{soughtOf};
 
 // What the scan of all entries leaves: it counts only where none is struck.

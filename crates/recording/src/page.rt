@@ -11,7 +11,7 @@ ghost use lib.ListN.{length, set};
 ghost use Rattle.pages.specs.Layout.{pageEntries};
 ghost use Rattle.pages.specs.Summary.{inUse};
 ghost use Rattle.split.specs.Split.{pageFrom, without};
-ghost use Rattle.recording.specs.Recording.{leafEntry};
+ghost use Rattle.rules.specs.Recording.{leafEntry};
 ghost use Rattle.recording.specs.PageSteps.{Tidy};
 
 // The page with its unused entries 0 and its count at most eight, whatever a spoilt table held.

@@ -5,7 +5,7 @@ use pages::Small;
 use wellformed::Checked;
 ghost use mathlib.Core.Path.{_≡_};
 ghost use Rattle.wellformed.specs.WellFormed.{wellFormed};
-ghost use Rattle.recording.specs.Record.{refusal};
+ghost use Rattle.rules.specs.Record.{refusal};
 
 fn is_well_formed(t: &[u16], s: Small) -> bool
     ensures { λ r. ⌜ r ≡ wellFormed (now (t .entry)) s ⌝ }

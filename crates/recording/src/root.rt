@@ -24,7 +24,7 @@ ghost use Prim.Native.Nat.{_+_, _<_};
 ghost use lib.ListN.{length, set};
 ghost use Rattle.pages.specs.Layout.{tableFits, pagesOf, freePage};
 ghost use Rattle.wellformed.specs.WellFormed.{page};
-ghost use Rattle.recording.specs.Recording.{leafEntry, fromRoot, newRootAt, putRootRight, oneEntry, collapse};
+ghost use Rattle.rules.specs.Recording.{leafEntry, fromRoot, newRootAt, putRootRight, oneEntry, collapse};
 ghost use Rattle.pages.specs.Free.{lowestFree};
 ghost use Rattle.recording.specs.LookSteps.{Within};
 ghost use Rattle.recording.specs.TidyLaws.{Tidied};

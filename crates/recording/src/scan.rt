@@ -7,12 +7,12 @@ use pages::Entry;
 use pages::Page;
 ghost use mathlib.Core.Path.{_≡_};
 ghost use Rattle.pages.specs.Summary.{inUse};
-ghost use Rattle.recording.specs.Scan.{met, candidate, scanEntry, scan};
+ghost use Rattle.rules.specs.Scan.{met, candidate, scanEntry, scan};
 ghost use Rattle.recording.specs.Views.{soughtOf};
 
 impl Sought {
     pub fn handed_in(b: Box) -> Sought
-        ensures { λ r. ⌜ soughtOf r ≡ Rattle.recording.specs.Scan.handedIn b ⌝ }
+        ensures { λ r. ⌜ soughtOf r ≡ Rattle.rules.specs.Scan.handedIn b ⌝ }
     {
         Sought {
             place: b,

@@ -24,7 +24,7 @@ ghost use Rattle.pages.specs.Layout.{pageEntries, tableFits, pagesOf, zeroEntry
 ghost use Rattle.pages.specs.Summary.{inUse};
 ghost use Rattle.wellformed.specs.WellFormed.{page};
 ghost use Rattle.recording.specs.PageSteps.{Tidy};
-ghost use Rattle.recording.specs.Recording.{exactAt};
+ghost use Rattle.rules.specs.Recording.{exactAt};
 ghost use Rattle.recording.specs.LyingSteps.{exactPage, settledAt};
 ghost use Rattle.recording.specs.SettleSteps.{Settles, settled, cameBack};
 ghost use Rattle.recording.specs.TidyLaws.{TidyPage};

@@ -15,9 +15,9 @@ ghost use Prim.Native.Nat.{_+_, _≤_};
 ghost use Rattle.pages.specs.Layout.{tableFits, pagesOf};
 ghost use Rattle.wellformed.specs.WellFormed.{mostAccepted};
 ghost use Rattle.recording.specs.CallSteps.{answeredOf};
-ghost use Rattle.recording.specs.Record.{answered};
-ghost use Rattle.recording.specs.RecordLaws.{Accepted};
-ghost use Rattle.recording.specs.Recording.{outcomeOf, recorded};
+ghost use Rattle.rules.specs.Record.{answered};
+ghost use Rattle.rules.specs.RecordLaws.{Accepted};
+ghost use Rattle.rules.specs.Recording.{outcomeOf, recorded};
 ghost use Rattle.recording.specs.RecordSteps.{outcomeIs, SmallMade};
 ghost use Rattle.recording.specs.Views.{mostStruck, soughtOf};
 

@@ -15,7 +15,7 @@ ghost use Rattle.pages.specs.Layout.{pageEntries, tableFits, pagesOf};
 ghost use Rattle.pages.specs.Summary.{inUse};
 ghost use Rattle.split.specs.Split.{pageFrom};
 ghost use Rattle.wellformed.specs.WellFormed.{page, childOf};
-ghost use Rattle.recording.specs.Strike.{isStruck, rest, strike};
+ghost use Rattle.rules.specs.Strike.{isStruck, rest, strike};
 ghost use Rattle.recording.specs.StrikeSteps.{Named, freeUnder, strikeIf};
 ghost use Rattle.recording.specs.Views.{mostStruck, Frees};
 

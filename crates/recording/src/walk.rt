@@ -23,7 +23,7 @@ ghost use mathlib.Core.Path.{_≡_};
 ghost use Rattle.pages.specs.Layout.{tableFits, pagesOf};
 ghost use Rattle.pages.specs.Summary.{inUse};
 ghost use Rattle.recording.specs.PageSteps.{Tidy};
-ghost use Rattle.recording.specs.Recording.{walkDown};
+ghost use Rattle.rules.specs.Recording.{walkDown};
 ghost use Rattle.recording.specs.Views.{soughtOf, Walks};
 ghost use Rattle.recording.specs.WalkSteps.{MayWalk, Goes, Steps};
 

@@ -1,6 +1,6 @@
 -- `probe::gust_probe_recorded` meets its contract.
 use mathlib.Core.Path.{sym, subst}
-use Rattle.recording.specs.RecordLaws.{Accepted}
+use Rattle.rules.specs.RecordLaws.{Accepted}
 use Rattle.probe.specs.Probe.{boxOf}
 use borrow.Author.Needs.{needs}
 use Rattle.probe.proofs.gust_probe_recorded.Statement.{statement}

@@ -2,7 +2,7 @@
 use Rattle.recording.specs.Views.{soughtOf}
 use Rattle.recording.specs.StrikeSteps.{used-at}
 use Rattle.recording.specs.ScanSteps.{scanFrom, scan-start, scan-turn, scan-end}
-use Rattle.recording.specs.Scan.{scan}
+use Rattle.rules.specs.Scan.{scan}
 use Rattle.pages.specs.Summary.{inUse}
 use Rattle.pages.specs.Layout.{pageEntries}
 use native.Mathlib.Omega.{arith}

@@ -1,7 +1,7 @@
 -- `recording::root::collapse` meets its contract.
 use Rattle.recording.specs.RootSteps.{Collapsing, collapse-turn, collapse-done, collapse-out}
 use Rattle.recording.specs.TableSteps.{still-fits}
-use Rattle.recording.specs.Recording.{collapse}
+use Rattle.rules.specs.Recording.{collapse}
 use Rattle.pages.specs.Layout.{pagesOf}
 use Rattle.wellformed.specs.WellFormed.{page}
 use borrow.Author.Tests.{not-true, not-false}

@@ -3,7 +3,7 @@ use lib.ListN.{length}
 use mathlib.Core.Path.{_≡_, refl, _∙_, sym}
 use native.Mathlib.Omega.{arith}
 use borrow.Author.Tests.{not-true, not-false}
-use Rattle.recording.specs.Recording.{Walked}
+use Rattle.rules.specs.Recording.{Walked}
 use Rattle.recording.specs.Views.{Walks}
 use Rattle.recording.specs.WalkSteps.{MayWalk, may-begin, may-walk-on}
 use Rattle.recording.specs.RootSteps.{Again, againFrom, again-begin, again-next, again-done, again-out, again-finish, may-walk-again}

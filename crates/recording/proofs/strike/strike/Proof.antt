@@ -1,7 +1,7 @@
 -- `recording::strike::strike` meets its contract.
 use Rattle.recording.specs.StrikeSteps.{Left, strikeFrom, struck-start, struck-turn, struck-end, used-at}
 use Rattle.recording.specs.TableSteps.{still-fits}
-use Rattle.recording.specs.Strike.{strike}
+use Rattle.rules.specs.Strike.{strike}
 use Rattle.pages.specs.Summary.{inUse}
 use Rattle.pages.specs.Layout.{pageEntries, pagesOf}
 use native.Mathlib.Omega.{arith}

@@ -15,11 +15,11 @@ use Rattle.pages.specs.declared.Page.{Page}
 use Rattle.split.specs.Split.{pageFrom}
 use Rattle.split.specs.SplitLaws.{weigh, Each, weigh-append, page-from-in-use}
 use Rattle.wellformed.specs.WellFormed.{page}
-use Rattle.recording.specs.Frame.{loads, Unchanged, loads-unchanged, records-unchanged, sound-unchanged, frame}
-use Rattle.recording.specs.Moves.{Pages, Apart, Moved, beside, again, write}
-use Rattle.recording.specs.Recording.{Became, Became.stands, Became.split, Became.emptied, Became.again as startAgain, Walked}
-use Rattle.recording.specs.Scan.{Sought}
-use Rattle.recording.specs.Tree.{load, records, Stands, Sound}
+use Rattle.rules.specs.Frame.{loads, Unchanged, loads-unchanged, records-unchanged, sound-unchanged, frame}
+use Rattle.rules.specs.Moves.{Pages, Apart, Moved, beside, again, write}
+use Rattle.rules.specs.Recording.{Became, Became.stands, Became.split, Became.emptied, Became.again as startAgain, Walked}
+use Rattle.rules.specs.Scan.{Sought}
+use Rattle.rules.specs.Tree.{load, records, Stands, Sound}
 
 -- A page's entry in its parent.
 abbrev pub handle : List Page → ℕ → Entry

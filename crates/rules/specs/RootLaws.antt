@@ -14,16 +14,16 @@ use Rattle.pages.specs.declared.Page.{Page}
 use Rattle.split.specs.Split.{pageFrom}
 use Rattle.split.specs.SplitLaws.{weigh, Each, weigh-append}
 use Rattle.wellformed.specs.WellFormed.{page}
-use Rattle.recording.specs.CameLaws.{allRecords, kept, Came, best-perm, weaken}
-use Rattle.recording.specs.Frame.{loads}
-use Rattle.recording.specs.Lists.{bestOf}
-use Rattle.recording.specs.Moves.{Pages, Apart, Moved, moved-apart, beside, again, then, takeUp}
-use Rattle.recording.specs.Recording.{Became.stands, Walked}
-use Rattle.recording.specs.Scan.{Sought}
-use Rattle.recording.specs.Score.{score}
-use Rattle.recording.specs.SettleLaws.{handle, handle-load, handle-records, in-use-not-free, put-entries, put-stands, put-load, put-records}
-use Rattle.recording.specs.StrikeLaws.{nothing}
-use Rattle.recording.specs.Tree.{records, hit, Stands, Sound}
+use Rattle.rules.specs.CameLaws.{allRecords, kept, Came, best-perm, weaken}
+use Rattle.rules.specs.Frame.{loads}
+use Rattle.rules.specs.Lists.{bestOf}
+use Rattle.rules.specs.Moves.{Pages, Apart, Moved, moved-apart, beside, again, then, takeUp}
+use Rattle.rules.specs.Recording.{Became.stands, Walked}
+use Rattle.rules.specs.Scan.{Sought}
+use Rattle.rules.specs.Score.{score}
+use Rattle.rules.specs.SettleLaws.{handle, handle-load, handle-records, in-use-not-free, put-entries, put-stands, put-load, put-records}
+use Rattle.rules.specs.StrikeLaws.{nothing}
+use Rattle.rules.specs.Tree.{records, hit, Stands, Sound}
 
 -- the pages and the records of the tree at page r, m levels under its entries
 abbrev pub rootLoad : List Page → ℕ → ℕ → Pages

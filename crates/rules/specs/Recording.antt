@@ -17,8 +17,8 @@ use Rattle.pages.specs.declared.Page.{Page}
 use Rattle.pages.specs.declared.Small.{Small}
 use Rattle.split.specs.Split.{lessOrTie, halves, pageFrom, without}
 use Rattle.wellformed.specs.WellFormed.{page}
-use Rattle.recording.specs.Strike.{rest, strike}
-use Rattle.recording.specs.Scan.{Sought, handedIn, scan}
+use Rattle.rules.specs.Strike.{rest, strike}
+use Rattle.rules.specs.Scan.{Sought, handedIn, scan}
 
 -- Rule 4: the entry whose box grows least in size to cover b; ties: smaller size, then lower place. Which of the places 0 to n:
 unfoldable pub growth : Box → Entry → ℕ

@@ -17,19 +17,19 @@ use Rattle.pages.specs.declared.Page.{Page}
 use Rattle.split.specs.Split.{pageFrom, without}
 use Rattle.split.specs.SplitLaws.{weigh, Each, each-at, page-from-in-use}
 use Rattle.wellformed.specs.WellFormed.{page}
-use Rattle.recording.specs.CameLaws.{allRecords, kept, Came, Before, best-perm, weaken, settle-hands-on}
-use Rattle.recording.specs.ChildLaws.{choose-inside, Replaced, replaced-one, replaced-two}
-use Rattle.recording.specs.Frame.{loads, Unchanged, loads-unchanged, records-unchanged, sound-unchanged, frame}
-use Rattle.recording.specs.Lists.{bestOf, best-flat, weigh-flat, at-weigh, at-best, at-each}
-use Rattle.recording.specs.Moves.{only-same, Pages, Apart, Moved, moved-apart, beside, again, then, write}
-use Rattle.recording.specs.OnePage.{bests, scan-keeps, never-empty}
-use Rattle.recording.specs.Recording.{Became, Became.stands, Became.split, Became.emptied, Became.again as startAgain, Walked, Walk, choose, exactAt, settle, comeBackBy, comeBack, goDown}
-use Rattle.recording.specs.Scan.{Sought, scan}
-use Rattle.recording.specs.Score.{score, Scanned}
-use Rattle.recording.specs.SettleLaws.{handle, Handles, Settled, Ready, in-use-not-free}
-use Rattle.recording.specs.SplitPageLaws.{settle-law}
-use Rattle.recording.specs.Strike.{isStruck, rest}
-use Rattle.recording.specs.Tree.{load, records, hit, best, Sound}
+use Rattle.rules.specs.CameLaws.{allRecords, kept, Came, Before, best-perm, weaken, settle-hands-on}
+use Rattle.rules.specs.ChildLaws.{choose-inside, Replaced, replaced-one, replaced-two}
+use Rattle.rules.specs.Frame.{loads, Unchanged, loads-unchanged, records-unchanged, sound-unchanged, frame}
+use Rattle.rules.specs.Lists.{bestOf, best-flat, weigh-flat, at-weigh, at-best, at-each}
+use Rattle.rules.specs.Moves.{only-same, Pages, Apart, Moved, moved-apart, beside, again, then, write}
+use Rattle.rules.specs.OnePage.{bests, scan-keeps, never-empty}
+use Rattle.rules.specs.Recording.{Became, Became.stands, Became.split, Became.emptied, Became.again as startAgain, Walked, Walk, choose, exactAt, settle, comeBackBy, comeBack, goDown}
+use Rattle.rules.specs.Scan.{Sought, scan}
+use Rattle.rules.specs.Score.{score, Scanned}
+use Rattle.rules.specs.SettleLaws.{handle, Handles, Settled, Ready, in-use-not-free}
+use Rattle.rules.specs.SplitPageLaws.{settle-law}
+use Rattle.rules.specs.Strike.{isStruck, rest}
+use Rattle.rules.specs.Tree.{load, records, hit, best, Sound}
 
 -- the law of the walk one level lower
 abbrev pub LowerLaw : ℕ → ℕ → Walk → Type 0

@@ -9,7 +9,7 @@ use Rattle.pages.specs.Free.{freeCount}
 use Rattle.pages.specs.Layout.{tableFits, pagesOf, tableOf}
 use Rattle.pages.specs.declared.Small.{Small}
 use Rattle.wellformed.specs.WellFormed.{wellFormed, mostAccepted}
-use Rattle.recording.specs.Recording.{Answer, Recorded, recorded}
+use Rattle.rules.specs.Recording.{Answer, Recorded, recorded}
 
 pub data Reply : Type 0 where
   Refused : ℕ → Reply

@@ -12,8 +12,8 @@ use Rattle.pages.specs.Layout.{pagesOf, tableOf}
 use Rattle.pages.specs.declared.Page.{Page}
 use Rattle.pages.specs.declared.Small.{Small}
 use Rattle.wellformed.specs.WellFormed.{heldRecords}
-use Rattle.recording.specs.Recording.{recorded}
-use Rattle.recording.specs.RecordLaws.{Accepted, record-law}
+use Rattle.rules.specs.Recording.{recorded}
+use Rattle.rules.specs.RecordLaws.{Accepted, record-law}
 
 -- the best answer to a question: 0 is nothing, and else the gust is one less
 abbrev pub bestAnswer : List ℕ → Small → Box → ℕ

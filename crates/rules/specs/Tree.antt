@@ -16,8 +16,8 @@ use Rattle.pages.specs.declared.Page.{Page}
 use Rattle.split.specs.Split.{pageFrom}
 use Rattle.split.specs.SplitLaws.{weigh, Each, each-at, each-of}
 use Rattle.wellformed.specs.WellFormed.{page, leafEntryStands}
-use Rattle.recording.specs.Lists.{bestOf, best-at, best-most, best-flat}
-use Rattle.recording.specs.Score.{score, score-gust, score-within}
+use Rattle.rules.specs.Lists.{bestOf, best-at, best-most, best-flat}
+use Rattle.rules.specs.Score.{score, score-gust, score-within}
 
 -- The sum of h over the pages under an entry.
 unfoldable pub load : List Page → (ℕ → ℕ) → ℕ → Entry → ℕ

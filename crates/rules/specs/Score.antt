@@ -17,8 +17,8 @@ use Rattle.ground.specs.declared.boxes.Cut.{Cut}
 use Rattle.ground.specs.declared.boxes.Cut.the-variants.{Covered, Left, Unchanged}
 use Rattle.pages.specs.declared.Entry.{Entry}
 use Rattle.split.specs.SplitLaws.{Each}
-use Rattle.recording.specs.Scan.{Sought, met, meets, candidate, scanEntry, scan}
-use Rattle.recording.specs.Strike.{isStruck}
+use Rattle.rules.specs.Scan.{Sought, met, meets, candidate, scanEntry, scan}
+use Rattle.rules.specs.Strike.{isStruck}
 unfoldable pub use Rattle.asking.specs.BoxMax.{score}
 
 abbrev pub scoreIf : Bool → ℕ → ℕ

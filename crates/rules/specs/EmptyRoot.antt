@@ -15,18 +15,18 @@ use Rattle.pages.specs.declared.Page.{Page}
 use Rattle.split.specs.Split.{pageFrom}
 use Rattle.split.specs.SplitLaws.{weigh, Each}
 use Rattle.wellformed.specs.WellFormed.{page}
-use Rattle.recording.specs.CameLaws.{allRecords, kept, keptIf, Before, best-perm, weaken, after-strike, strike-busy, strike-counted, strike-records, strike-answers}
-use Rattle.recording.specs.Frame.{loads}
-use Rattle.recording.specs.LeafLaws.{leaf-sound, leaf-load, leaf-records}
-use Rattle.recording.specs.Lists.{bestOf, best-one}
-use Rattle.recording.specs.Moves.{Moved, moved-apart, again, then}
-use Rattle.recording.specs.Recording.{Became.stands, Became.emptied, store, leafEntry, append, goDown, goOn, atPage, walkDown, Next}
-use Rattle.recording.specs.RootLaws.{rootLoad, rootRecords, Grown, one-load, one-records, alone}
-use Rattle.recording.specs.Scan.{Sought}
-use Rattle.recording.specs.Score.{score}
-use Rattle.recording.specs.SettleLaws.{handle, Settled, Ready, store-law}
-use Rattle.recording.specs.Strike.{Struck, struckOf, rest, strike}
-use Rattle.recording.specs.Tree.{records, hit, Sound}
+use Rattle.rules.specs.CameLaws.{allRecords, kept, keptIf, Before, best-perm, weaken, after-strike, strike-busy, strike-counted, strike-records, strike-answers}
+use Rattle.rules.specs.Frame.{loads}
+use Rattle.rules.specs.LeafLaws.{leaf-sound, leaf-load, leaf-records}
+use Rattle.rules.specs.Lists.{bestOf, best-one}
+use Rattle.rules.specs.Moves.{Moved, moved-apart, again, then}
+use Rattle.rules.specs.Recording.{Became.stands, Became.emptied, store, leafEntry, append, goDown, goOn, atPage, walkDown, Next}
+use Rattle.rules.specs.RootLaws.{rootLoad, rootRecords, Grown, one-load, one-records, alone}
+use Rattle.rules.specs.Scan.{Sought}
+use Rattle.rules.specs.Score.{score}
+use Rattle.rules.specs.SettleLaws.{handle, Settled, Ready, store-law}
+use Rattle.rules.specs.Strike.{Struck, struckOf, rest, strike}
+use Rattle.rules.specs.Tree.{records, hit, Sound}
 
 no-entry : (es : List Entry) → length es ≡ 0 → es ≡ []
 no-entry [] e = refl

@@ -9,9 +9,9 @@ use Rattle.pages.specs.declared.Entry.{Entry}
 use Rattle.pages.specs.declared.Page.{Page}
 use Rattle.split.specs.SplitLaws.{weigh, Each}
 use Rattle.wellformed.specs.WellFormed.{page}
-use Rattle.recording.specs.Lists.{weigh-same, each-imp}
-use Rattle.recording.specs.Moves.{only, only-same, not-free, Pages, Apart, Moved}
-use Rattle.recording.specs.Tree.{load, records, Shown, Sound}
+use Rattle.rules.specs.Lists.{weigh-same, each-imp}
+use Rattle.rules.specs.Moves.{only, only-same, not-free, Pages, Apart, Moved}
+use Rattle.rules.specs.Tree.{load, records, Shown, Sound}
 
 -- the sum of h over the pages under a list of entries
 abbrev pub loads : List Page → ℕ → List Entry → Pages

@@ -11,7 +11,7 @@ use Rattle.pages.specs.Layout.{zeroEntry}
 use Rattle.pages.specs.declared.Entry.{Entry}
 use Rattle.split.specs.Split.{without}
 use Rattle.split.specs.SplitLaws.{weigh, Each, weigh-append, weigh-count, each-append, each-first, each-second}
-use Rattle.recording.specs.Strike.{consIf, select}
+use Rattle.rules.specs.Strike.{consIf, select}
 unfoldable pub use Rattle.asking.specs.BoxMax.{greatest as bestOf}
 
 pub best-append : (f : Entry → ℕ) (xs ys : List Entry) → bestOf f (xs ++ ys) ≡ max (bestOf f xs) (bestOf f ys)

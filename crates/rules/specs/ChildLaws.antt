@@ -11,9 +11,9 @@ use Rattle.pages.specs.declared.Entry.{Entry}
 use Rattle.pages.specs.declared.Page.{Page}
 use Rattle.split.specs.Split.{without}
 use Rattle.split.specs.SplitLaws.{weigh, Each, weigh-append, each-append}
-use Rattle.recording.specs.Lists.{bestOf, best-append, set-weigh, set-best, set-each}
-use Rattle.recording.specs.Recording.{goesBefore, leastGrown, choose, exactAt}
-use Rattle.recording.specs.SettleLaws.{handle}
+use Rattle.rules.specs.Lists.{bestOf, best-append, set-weigh, set-best, set-each}
+use Rattle.rules.specs.Recording.{goesBefore, leastGrown, choose, exactAt}
+use Rattle.rules.specs.SettleLaws.{handle}
 
 -- the chosen place is one of the list
 pub least-grown-most : (b : Box) (es : List Entry) (n : ℕ) → leastGrown b es n ≤ n

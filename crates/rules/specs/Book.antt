@@ -19,16 +19,16 @@ use Rattle.pages.specs.declared.Page.{Page}
 use Rattle.pages.specs.declared.Small.{Small}
 use Rattle.split.specs.SplitLaws.{weigh, weigh-count}
 use Rattle.wellformed.specs.WellFormed.{page, mostAccepted}
-use Rattle.recording.specs.CameLaws.{kept, keptIf, Before}
-use Rattle.recording.specs.CollapseLaws.{Collapsed, collapse-law}
-use Rattle.recording.specs.FromRoot.{GrownTo, root-law}
-use Rattle.recording.specs.Lists.{bestOf}
-use Rattle.recording.specs.Moves.{only, free, Clean, Apart}
-use Rattle.recording.specs.Recording.{Outcome, Outcome.Kept, Outcome.Cut, Outcome.Covered, Walked, Rooted, putRootRight, collapse, fromRoot, outcomeOf, smallAfter, Recorded, recorded}
-use Rattle.recording.specs.RootLaws.{rootLoad, rootRecords, Grown}
-use Rattle.recording.specs.Scan.{handedIn}
-use Rattle.recording.specs.Score.{score}
-use Rattle.recording.specs.Tree.{hit, Stands, Sound, level-of}
+use Rattle.rules.specs.CameLaws.{kept, keptIf, Before}
+use Rattle.rules.specs.CollapseLaws.{Collapsed, collapse-law}
+use Rattle.rules.specs.FromRoot.{GrownTo, root-law}
+use Rattle.rules.specs.Lists.{bestOf}
+use Rattle.rules.specs.Moves.{only, free, Clean, Apart}
+use Rattle.rules.specs.Recording.{Outcome, Outcome.Kept, Outcome.Cut, Outcome.Covered, Walked, Rooted, putRootRight, collapse, fromRoot, outcomeOf, smallAfter, Recorded, recorded}
+use Rattle.rules.specs.RootLaws.{rootLoad, rootRecords, Grown}
+use Rattle.rules.specs.Scan.{handedIn}
+use Rattle.rules.specs.Score.{score}
+use Rattle.rules.specs.Tree.{hit, Stands, Sound, level-of}
 
 pub record Book (ps : List Page) (s : Small) : Type 0 where
   pub levels : ℕ

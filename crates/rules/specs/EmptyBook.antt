@@ -16,11 +16,11 @@ use Rattle.split.specs.SplitLaws.{weigh}
 use Rattle.wellformed.specs.Parts.{whole}
 use Rattle.wellformed.specs.WellFormed.{page, wellFormed}
 use mathlib.Core.List.{flatMap}
-use Rattle.recording.specs.Book.{Book}
-use Rattle.recording.specs.FromWellFormed.{Conditions}
-use Rattle.recording.specs.Moves.{freeAt, free, Clean, total-change}
-use Rattle.recording.specs.RootLaws.{rootLoad}
-use Rattle.recording.specs.ToWellFormed.{conditions}
+use Rattle.rules.specs.Book.{Book}
+use Rattle.rules.specs.FromWellFormed.{Conditions}
+use Rattle.rules.specs.Moves.{freeAt, free, Clean, total-change}
+use Rattle.rules.specs.RootLaws.{rootLoad}
+use Rattle.rules.specs.ToWellFormed.{conditions}
 
 module _ (k : ℕ) where
   ps : List Page

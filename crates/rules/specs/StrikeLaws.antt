@@ -14,10 +14,10 @@ use Rattle.pages.specs.declared.Entry.{Entry}
 use Rattle.pages.specs.declared.Page.{Page}
 use Rattle.split.specs.SplitLaws.{weigh, Each}
 use Rattle.wellformed.specs.WellFormed.{page}
-use Rattle.recording.specs.Frame.{loads, loads-unchanged, records-unchanged, sound-unchanged, frame}
-use Rattle.recording.specs.Moves.{only, only-same, Pages, Apart, Moved, still, beside, again, then, release, moved-apart}
-use Rattle.recording.specs.Strike.{Struck, strikeAll, strikeOne, strike, struckOf}
-use Rattle.recording.specs.Tree.{load, records, Stands, Sound, level-of}
+use Rattle.rules.specs.Frame.{loads, loads-unchanged, records-unchanged, sound-unchanged, frame}
+use Rattle.rules.specs.Moves.{only, only-same, Pages, Apart, Moved, still, beside, again, then, release, moved-apart}
+use Rattle.rules.specs.Strike.{Struck, strikeAll, strikeOne, strike, struckOf}
+use Rattle.rules.specs.Tree.{load, records, Stands, Sound, level-of}
 
 abbrev pub nothing : Pages
 nothing h = 0

@@ -17,15 +17,15 @@ use Rattle.pages.specs.declared.Page.{Page}
 use Rattle.split.specs.Split.{pageFrom}
 use Rattle.split.specs.SplitLaws.{Each}
 use Rattle.wellformed.specs.WellFormed.{page}
-use Rattle.recording.specs.CameLaws.{Came, Before, after-strike}
-use Rattle.recording.specs.EmptyRoot.{empty-walk, empty-root}
-use Rattle.recording.specs.Recording.{Became, Became.stands, Became.split, Became.emptied, Became.again as startAgain, Walked, Rooted, newRootAt, putRootRight, walkDown, startAgainBy, plusStruck, fromRoot}
-use Rattle.recording.specs.RootLaws.{Grown, alone, stands-grown, split-root}
-use Rattle.recording.specs.Scan.{Sought}
-use Rattle.recording.specs.SettleLaws.{handle, Handles}
-use Rattle.recording.specs.Strike.{rest, strike}
-use Rattle.recording.specs.Tree.{Sound, level-of}
-use Rattle.recording.specs.WalkLaws.{walk-law}
+use Rattle.rules.specs.CameLaws.{Came, Before, after-strike}
+use Rattle.rules.specs.EmptyRoot.{empty-walk, empty-root}
+use Rattle.rules.specs.Recording.{Became, Became.stands, Became.split, Became.emptied, Became.again as startAgain, Walked, Rooted, newRootAt, putRootRight, walkDown, startAgainBy, plusStruck, fromRoot}
+use Rattle.rules.specs.RootLaws.{Grown, alone, stands-grown, split-root}
+use Rattle.rules.specs.Scan.{Sought}
+use Rattle.rules.specs.SettleLaws.{handle, Handles}
+use Rattle.rules.specs.Strike.{rest, strike}
+use Rattle.rules.specs.Tree.{Sound, level-of}
+use Rattle.rules.specs.WalkLaws.{walk-law}
 
 -- what has grown, with no more levels than one more
 pub record GrownTo (n v : ℕ) (ps : List Page) (r : ℕ) (s : Sought) (w : Walked) (t : Rooted) : Type 0 where

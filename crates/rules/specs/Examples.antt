@@ -14,9 +14,9 @@ use Rattle.pages.specs.declared.Entry.{Entry}
 use Rattle.pages.specs.declared.Page.{Page}
 use Rattle.pages.specs.declared.Small.{Small}
 use Rattle.split.specs.Split.{halves, pageFrom, begin, seeds, places, pairs, pairsWith, mostWasteful, wastesMore, placeAll, place, takes, next, firstMost, growthsDiffer, growth as groupGrowth, secondTakes}
-use Rattle.recording.specs.Strike.{select, strikeAll, strikeOne, strike}
-use Rattle.recording.specs.Scan.{candidate, scanEntry, scan}
-use Rattle.recording.specs.Recording.{growth, goesBefore, leastGrown, choose, leafEntry, splitPage, settle, exactAt, comeBack, append, goDown, goOn, atPage, walkDown, fromRoot, collapse, Outcome.Kept, Outcome.Cut, Outcome.Covered, Answer, recorded}
+use Rattle.rules.specs.Strike.{select, strikeAll, strikeOne, strike}
+use Rattle.rules.specs.Scan.{candidate, scanEntry, scan}
+use Rattle.rules.specs.Recording.{growth, goesBefore, leastGrown, choose, leafEntry, splitPage, settle, exactAt, comeBack, append, goDown, goOn, atPage, walkDown, fromRoot, collapse, Outcome.Kept, Outcome.Cut, Outcome.Covered, Answer, recorded}
 
 -- an empty book of 180 pages, and the answers of records one after another
 abbrev emptyPages : List Page

@@ -23,16 +23,16 @@ use Rattle.split.specs.SplitLaws.{Each, page-from-length}
 use Rattle.wellformed.specs.Counting.{times-sum}
 use Rattle.wellformed.specs.Flat.{below-so}
 use Rattle.wellformed.specs.WellFormed.{times, page, childOf, children, walk, reached, leafEntries, heldRecords, rootStands, isLower, childrenLower, reachedOnce, leastCount, countStands, leafEntryStands, isExact, entriesStand, pageStands, mostAccepted, countsStand}
-use Rattle.recording.specs.Book.{Book}
-use Rattle.recording.specs.CollapseLaws.{count-is}
-use Rattle.recording.specs.FromWellFormed.{Conditions}
-use Rattle.recording.specs.Lists.{each-imp}
-use Rattle.recording.specs.Moves.{only, free, free-only}
-use Rattle.recording.specs.ReachLaws.{leaf-children, index-children, held-at, sum-at, InTree, in-entries}
-use Rattle.recording.specs.RootLaws.{rootLoad, rootRecords}
-use Rattle.recording.specs.StrikeLaws.{standing}
-use Rattle.recording.specs.Tree.{Stands, Sound, level-of}
-use Rattle.recording.specs.WordFacts.{same-words-self, zeros-zero, free-zero, each-every}
+use Rattle.rules.specs.Book.{Book}
+use Rattle.rules.specs.CollapseLaws.{count-is}
+use Rattle.rules.specs.FromWellFormed.{Conditions}
+use Rattle.rules.specs.Lists.{each-imp}
+use Rattle.rules.specs.Moves.{only, free, free-only}
+use Rattle.rules.specs.ReachLaws.{leaf-children, index-children, held-at, sum-at, InTree, in-entries}
+use Rattle.rules.specs.RootLaws.{rootLoad, rootRecords}
+use Rattle.rules.specs.StrikeLaws.{standing}
+use Rattle.rules.specs.Tree.{Stands, Sound, level-of}
+use Rattle.rules.specs.WordFacts.{same-words-self, zeros-zero, free-zero, each-every}
 
 total-one : (q n : ℕ) → q < n → total (only q) n ≡ 1
 unfolding total

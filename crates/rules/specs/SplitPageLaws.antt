@@ -18,14 +18,14 @@ use Rattle.pages.specs.declared.Page.{Page}
 use Rattle.split.specs.Split.{halves, pageFrom}
 use Rattle.split.specs.SplitLaws.{weigh, Each, halves-weigh, halves-each, nine-halves}
 use Rattle.wellformed.specs.WellFormed.{page}
-use Rattle.recording.specs.Frame.{loads, Unchanged, loads-unchanged, records-unchanged, sound-unchanged, frame}
-use Rattle.recording.specs.Lists.{weigh-flat}
-use Rattle.recording.specs.Moves.{only, free, Pages, Apart, Moved, moved-apart, beside, again, then, write, takeUp}
-use Rattle.recording.specs.Recording.{Became.split, intoPage, splitPage, settleBy, settle}
-use Rattle.recording.specs.Scan.{Sought}
-use Rattle.recording.specs.SettleLaws.{handle, Settled, Ready, in-use-not-free, put-sound, put-load, put-records, store-law}
-use Rattle.recording.specs.StrikeLaws.{nothing}
-use Rattle.recording.specs.Tree.{load, records, Sound}
+use Rattle.rules.specs.Frame.{loads, Unchanged, loads-unchanged, records-unchanged, sound-unchanged, frame}
+use Rattle.rules.specs.Lists.{weigh-flat}
+use Rattle.rules.specs.Moves.{only, free, Pages, Apart, Moved, moved-apart, beside, again, then, write, takeUp}
+use Rattle.rules.specs.Recording.{Became.split, intoPage, splitPage, settleBy, settle}
+use Rattle.rules.specs.Scan.{Sought}
+use Rattle.rules.specs.SettleLaws.{handle, Settled, Ready, in-use-not-free, put-sound, put-load, put-records, store-law}
+use Rattle.rules.specs.StrikeLaws.{nothing}
+use Rattle.rules.specs.Tree.{load, records, Sound}
 
 module _ (n : ℕ) (ps : List Page) (p : ℕ) (es : List Entry) (r : Ready n ps p es) (nine : length es ≡ 9) where
   first : List Entry

@@ -15,17 +15,17 @@ use Rattle.pages.specs.declared.Entry.{Entry}
 use Rattle.pages.specs.declared.Page.{Page}
 use Rattle.split.specs.SplitLaws.{weigh, weigh-append, each-append}
 use Rattle.wellformed.specs.WellFormed.{leafEntryStands}
-use Rattle.recording.specs.CameLaws.{allRecords, kept, keptIf, Came, best-perm, settle-hands-on}
-use Rattle.recording.specs.Frame.{loads}
-use Rattle.recording.specs.Lists.{bestOf, best-append, best-one, best-flat}
-use Rattle.recording.specs.Moves.{only, again}
-use Rattle.recording.specs.OnePage.{bests, scan-keeps}
-use Rattle.recording.specs.Recording.{leafEntry, Walked, settle, append}
-use Rattle.recording.specs.Scan.{Sought, scan}
-use Rattle.recording.specs.Score.{score, Scanned}
-use Rattle.recording.specs.SettleLaws.{Settled, Ready}
-use Rattle.recording.specs.SplitPageLaws.{settle-law}
-use Rattle.recording.specs.Tree.{load, records, hit, Sound}
+use Rattle.rules.specs.CameLaws.{allRecords, kept, keptIf, Came, best-perm, settle-hands-on}
+use Rattle.rules.specs.Frame.{loads}
+use Rattle.rules.specs.Lists.{bestOf, best-append, best-one, best-flat}
+use Rattle.rules.specs.Moves.{only, again}
+use Rattle.rules.specs.OnePage.{bests, scan-keeps}
+use Rattle.rules.specs.Recording.{leafEntry, Walked, settle, append}
+use Rattle.rules.specs.Scan.{Sought, scan}
+use Rattle.rules.specs.Score.{score, Scanned}
+use Rattle.rules.specs.SettleLaws.{Settled, Ready}
+use Rattle.rules.specs.SplitPageLaws.{settle-law}
+use Rattle.rules.specs.Tree.{load, records, hit, Sound}
 
 -- a legal record is a sound leaf entry
 pub leaf-sound : (b : Box) (v : ℕ) → legal b ≡ true → gustPasses (record { tenths = v }) ≡ true → leafEntryStands (leafEntry b v) ≡ true

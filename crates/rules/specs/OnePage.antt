@@ -18,11 +18,11 @@ use Rattle.pages.specs.declared.Entry.{Entry}
 use Rattle.pages.specs.declared.Page.{Page}
 use Rattle.split.specs.SplitLaws.{Each, each-at, each-of}
 use Rattle.wellformed.specs.WellFormed.{page}
-use Rattle.recording.specs.Lists.{bestOf, best-at, best-most, best-parts, each-imp, select-weigh, select-each}
-use Rattle.recording.specs.Scan.{Sought, scan}
-use Rattle.recording.specs.Score.{score, score-gust, struck-less, struck-wider, Candidates, Scanned, scan-law}
-use Rattle.recording.specs.Strike.{isStruck, consIf, select, struckOf, rest}
-use Rattle.recording.specs.Tree.{best, Sound, Bounds, bounds, exact-entries}
+use Rattle.rules.specs.Lists.{bestOf, best-at, best-most, best-parts, each-imp, select-weigh, select-each}
+use Rattle.rules.specs.Scan.{Sought, scan}
+use Rattle.rules.specs.Score.{score, score-gust, struck-less, struck-wider, Candidates, Scanned, scan-law}
+use Rattle.rules.specs.Strike.{isStruck, consIf, select, struckOf, rest}
+use Rattle.rules.specs.Tree.{best, Sound, Bounds, bounds, exact-entries}
 
 -- the best of what stands under a page's entries
 abbrev pub bests : List Page → Box → ℕ → List Entry → ℕ

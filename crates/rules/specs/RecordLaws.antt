@@ -21,16 +21,16 @@ use Rattle.pages.specs.declared.Small.{Small}
 use Rattle.split.specs.SplitLaws.{weigh}
 use Rattle.wellformed.specs.Parts.{parts, whole}
 use Rattle.wellformed.specs.WellFormed.{page, heldRecords, wellFormed, mostAccepted}
-use Rattle.recording.specs.Book.{Book, saysCovered, recorded-law, before}
-use Rattle.recording.specs.CameLaws.{keptIf}
-use Rattle.recording.specs.FromRoot.{from-root-stops, never-again}
-use Rattle.recording.specs.FromWellFormed.{Conditions, book}
-use Rattle.recording.specs.Record.{firstOf, refusal, answered, refused, recordInto}
-use Rattle.recording.specs.Recording.{Recorded, recorded, walkDown, fromRoot}
-use Rattle.recording.specs.Scan.{handedIn}
-use Rattle.recording.specs.StrikeLaws.{standing}
-use Rattle.recording.specs.ToWellFormed.{book-held, book-eight, conditions}
-use Rattle.recording.specs.Tree.{Sound}
+use Rattle.rules.specs.Book.{Book, saysCovered, recorded-law, before}
+use Rattle.rules.specs.CameLaws.{keptIf}
+use Rattle.rules.specs.FromRoot.{from-root-stops, never-again}
+use Rattle.rules.specs.FromWellFormed.{Conditions, book}
+use Rattle.rules.specs.Record.{firstOf, refusal, answered, refused, recordInto}
+use Rattle.rules.specs.Recording.{Recorded, recorded, walkDown, fromRoot}
+use Rattle.rules.specs.Scan.{handedIn}
+use Rattle.rules.specs.StrikeLaws.{standing}
+use Rattle.rules.specs.ToWellFormed.{book-held, book-eight, conditions}
+use Rattle.rules.specs.Tree.{Sound}
 
 -- the conditions of a table's pages, and back
 pub conditions-of : (t : List ℕ) (s : Small) → wellFormed t s ≡ true → Conditions (pagesOf t) s

@@ -17,14 +17,14 @@ use Rattle.pages.specs.declared.Page.{Page}
 use Rattle.split.specs.Split.{pageFrom}
 use Rattle.split.specs.SplitLaws.{weigh, Each, weigh-append}
 use Rattle.wellformed.specs.WellFormed.{page}
-use Rattle.recording.specs.CameLaws.{allRecords, weaken, best-perm}
-use Rattle.recording.specs.Frame.{loads, Unchanged, frame}
-use Rattle.recording.specs.Moves.{only, Pages, Apart, Moved, moved-apart, beside, again, then, release}
-use Rattle.recording.specs.Recording.{Rooted, oneEntry, collapseBy, collapse}
-use Rattle.recording.specs.RootLaws.{rootLoad, rootRecords, Grown}
-use Rattle.recording.specs.Scan.{Sought}
-use Rattle.recording.specs.StrikeLaws.{nothing, standing}
-use Rattle.recording.specs.Tree.{load, records, hit, Stands, Sound, level-of}
+use Rattle.rules.specs.CameLaws.{allRecords, weaken, best-perm}
+use Rattle.rules.specs.Frame.{loads, Unchanged, frame}
+use Rattle.rules.specs.Moves.{only, Pages, Apart, Moved, moved-apart, beside, again, then, release}
+use Rattle.rules.specs.Recording.{Rooted, oneEntry, collapseBy, collapse}
+use Rattle.rules.specs.RootLaws.{rootLoad, rootRecords, Grown}
+use Rattle.rules.specs.Scan.{Sought}
+use Rattle.rules.specs.StrikeLaws.{nothing, standing}
+use Rattle.rules.specs.Tree.{load, records, hit, Stands, Sound, level-of}
 
 alone : (es : List Entry) → length es ≡ 1 → es ≡ getD es 0 zeroEntry ∷ []
 alone [] e = absurd (omega arith)

@@ -19,17 +19,17 @@ use Rattle.pages.specs.declared.Page.{Page}
 use Rattle.split.specs.Split.{pageFrom, halves}
 use Rattle.split.specs.SplitLaws.{weigh, Each, weigh-append}
 use Rattle.wellformed.specs.WellFormed.{page}
-use Rattle.recording.specs.Frame.{loads, Unchanged, loads-unchanged, records-unchanged, sound-unchanged, frame}
-use Rattle.recording.specs.Lists.{bestOf, best-parts, best-flat, weigh-flat, select-weigh, select-length}
-use Rattle.recording.specs.Moves.{only, free, only-same, Pages, Apart, Moved, moved-apart, beside, again, then}
-use Rattle.recording.specs.OnePage.{scan-keeps, strike-keeps, sound-rest, sound-struck}
-use Rattle.recording.specs.Recording.{Became.stands, leafEntry, Walked, intoPage, splitPage, store, settleBy, settle}
-use Rattle.recording.specs.Scan.{Sought, scan}
-use Rattle.recording.specs.Score.{score}
-use Rattle.recording.specs.SettleLaws.{Handles, Ready, store-law}
-use Rattle.recording.specs.Strike.{isStruck, struckOf, rest, strike}
-use Rattle.recording.specs.StrikeLaws.{nothing, Strikes, standing, strike-law}
-use Rattle.recording.specs.Tree.{load, records, hit, Stands, Sound}
+use Rattle.rules.specs.Frame.{loads, Unchanged, loads-unchanged, records-unchanged, sound-unchanged, frame}
+use Rattle.rules.specs.Lists.{bestOf, best-parts, best-flat, weigh-flat, select-weigh, select-length}
+use Rattle.rules.specs.Moves.{only, free, only-same, Pages, Apart, Moved, moved-apart, beside, again, then}
+use Rattle.rules.specs.OnePage.{scan-keeps, strike-keeps, sound-rest, sound-struck}
+use Rattle.rules.specs.Recording.{Became.stands, leafEntry, Walked, intoPage, splitPage, store, settleBy, settle}
+use Rattle.rules.specs.Scan.{Sought, scan}
+use Rattle.rules.specs.Score.{score}
+use Rattle.rules.specs.SettleLaws.{Handles, Ready, store-law}
+use Rattle.rules.specs.Strike.{isStruck, struckOf, rest, strike}
+use Rattle.rules.specs.StrikeLaws.{nothing, Strikes, standing, strike-law}
+use Rattle.rules.specs.Tree.{load, records, hit, Stands, Sound}
 
 -- all records under a list of entries
 abbrev pub allRecords : List Page → ℕ → List Entry → List Entry

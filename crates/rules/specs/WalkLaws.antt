@@ -12,14 +12,14 @@ use Rattle.pages.specs.Summary.{inUse}
 use Rattle.pages.specs.declared.Entry.{Entry}
 use Rattle.pages.specs.declared.Page.{Page}
 use Rattle.wellformed.specs.WellFormed.{page}
-use Rattle.recording.specs.CameLaws.{Came, Before, covered-law, strike-then, after-strike, ready-left, left-most}
-use Rattle.recording.specs.IndexLaws.{LowerLaw, go-down-law, down-before, down-not-empty, found-again}
-use Rattle.recording.specs.LeafLaws.{append-law}
-use Rattle.recording.specs.OnePage.{rest-unstruck}
-use Rattle.recording.specs.Recording.{choose, Next, append, goDown, unlessCovered, goOn, atPage, walkDown}
-use Rattle.recording.specs.Scan.{Sought, scan}
-use Rattle.recording.specs.Strike.{Struck, rest, strike}
-use Rattle.recording.specs.Tree.{Sound, level-of}
+use Rattle.rules.specs.CameLaws.{Came, Before, covered-law, strike-then, after-strike, ready-left, left-most}
+use Rattle.rules.specs.IndexLaws.{LowerLaw, go-down-law, down-before, down-not-empty, found-again}
+use Rattle.rules.specs.LeafLaws.{append-law}
+use Rattle.rules.specs.OnePage.{rest-unstruck}
+use Rattle.rules.specs.Recording.{choose, Next, append, goDown, unlessCovered, goOn, atPage, walkDown}
+use Rattle.rules.specs.Scan.{Sought, scan}
+use Rattle.rules.specs.Strike.{Struck, rest, strike}
+use Rattle.rules.specs.Tree.{Sound, level-of}
 
 -- rule 2 does not bite, and rules 3 and 4 give what their cases give
 on-law : (n v : ℕ) (next : Next) (ps : List Page) (p : ℕ) (es : List Entry) (s : Sought) (k : ℕ) → 1 ≤ length es
