@@ -21,7 +21,7 @@ use Rattle.recording.specs.declared.Became.the-variants as case
 use Rattle.recording.specs.PageSteps.{Tidy, level-is, in-use-is, count-is, pushed, put-there}
 use Rattle.rules.specs.Recording.{Became, Became.stands, settleBy, settle, splitPage, intoPage, exactAt}
 use Rattle.rules.specs.Scan.{handedIn}
-use Rattle.recording.specs.SettleSteps.{Settled, settledBy, settled, Settles, settled-few, own-tidy, one-more-tidy, came-standing, came-split, cameBack}
+use Rattle.recording.specs.SettleSteps.{Settled, settledBy, settled, Settles, settled-few, own-tidy, one-more-tidy, came-standing, came-split, came-again, cameBack}
 use Rattle.recording.specs.TableSteps.{UsedAt}
 use Rattle.recording.specs.TidyLaws.{TidyPage, exact-length, tidy-from}
 use Rattle.recording.specs.Views.{Leaves, becameOf}
@@ -82,6 +82,9 @@ module _ (t : List ℕ) (p : ℕ) (h : TidyPage (page (pagesOf t) p)) where
       let y = exactPage (pagesOf t) p i in
       let d = exact-tidy i in
       came-standing t u p i o y case.Stands e d (settled-few t u p (y .level) y (inUse y) (own-tidy y (page (pagesOf t) p .level) (exactAt (pagesOf t) (inUse (page (pagesOf t) p)) i) d) g)
+
+  pub came-again-here : (u : List ℕ) (i : ℕ) (o : code-became.Became) → o ≡ case.Again → Leaves t u (set (pagesOf t) p (exactPage (pagesOf t) p i)) → Settles t u case.Again (cameBack (becameOf o) (pagesOf t) p i)
+  came-again-here u i o e g = came-again t u p i o (exactPage (pagesOf t) p i) e (exact-tidy i) g
 
 -- the page that was made exact, in its place or past the end
 pub exact-there : (ps : List Page) (p i : ℕ) → page (set ps p (exactPage ps p i)) p ≡ exactPage ps p i

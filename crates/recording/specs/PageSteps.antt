@@ -32,27 +32,6 @@ pub level-is : (x : Page) (level : ℕ) (es : List Entry) → x ≡ pageFrom lev
 unfolding pageFrom
 level-is x level es e = ap (λ (y : Page). y .level) e
 
--- the first i entries copied
-pub record Copying (es : List Entry) (i : ℕ) (kept : List Entry) : Type 0 where
-  pub filled : Filled (take i es) kept i
-  pub eight : length kept ≡ pageEntries
-
-pub copying-none : (es kept : List Entry) → kept ≡ replicate pageEntries zeroEntry → Copying es 0 kept
-copying-none es kept e = record { filled = filled-none kept e; eight = ap length e }
-
-pub copying-more : (x : Page) (i : ℕ) (old new : List Entry) → i < length (inUse x) → length (inUse x) ≤ pageEntries → new ≡ set old i (getD (x .entries) i zeroEntry) → Copying (inUse x) i old → Copying (inUse x) (i + 1) new
-copying-more x i old new l m e h =
-    let f = filled-more (take i (inUse x)) old i (getD (x .entries) i zeroEntry) (omega arith) (h .filled) in
-    let t : take (i + 1) (inUse x) ≡ take i (inUse x) ++ (getD (x .entries) i zeroEntry ∷ []) = rw (add-one i, used-at x i l) (take-suc (inUse x) i zeroEntry l) in
-    record { filled = rw (e, t) f; eight = ap length e ∙ length-set old i (getD (x .entries) i zeroEntry) ∙ h .eight }
-
-pub copied : (x : Page) (i n level : ℕ) (kept : List Entry) → n ≤ i → i ≤ n → n ≡ length (inUse x) → n ≤ pageEntries → Copying (inUse x) i kept → Tidy (record { level = level; count = n; entries = kept }) level (inUse x)
-copied x i n level kept p q e m h =
-    let z : i ≡ n = omega arith in
-    let t : take i (inUse x) ≡ inUse x = take-all i (inUse x) (omega arith) in
-    let f = rw (z) at (rw t at (h .filled)) in
-    record { is = filled-page (inUse x) level n kept f; most = omega arith }
-
 -- one entry more
 pub pushed : (x : Page) (k : ℕ) (e : Entry) → k ≡ x .count → x ≡ pageFrom (x .level) (inUse x) → x .count < pageEntries → record { level = x .level; count = k + 1; entries = set (x .entries) k e } ≡ pageFrom (x .level) (inUse x ++ (e ∷ []))
 unfolding pageFrom
@@ -70,12 +49,6 @@ put-there x i e h l =
     let q : set (x .entries) i e ≡ set (inUse x) i e ++ replicate (pageEntries - x .count) zeroEntry =
     ap (λ (y : Page). set (y .entries) i e) (h .is) ∙ set-append-left (inUse x) (replicate (pageEntries - length (inUse x)) zeroEntry) i e (omega arith) ∙ ap (λ k. set (inUse x) i e ++ replicate (pageEntries - k) zeroEntry) (sym n) in
     record { is = filled-page (set (inUse x) i e) (x .level) (x .count) (set (x .entries) i e) (record { count-is = n ∙ sym m; entries-are = q }); most = omega (arith, h .most) }
-
-pub put-past : (x : Page) (i : ℕ) (e : Entry) → Tidy x (x .level) (inUse x) → x .count ≤ i → Tidy x (x .level) (set (inUse x) i e)
-put-past x i e h l =
-    let n : x .count ≡ length (inUse x) = count-is x (x .level) (inUse x) (h .is) in
-    let s = set-out (inUse x) i e (omega arith) in
-    record { is = h .is ∙ ap (pageFrom (x .level)) (sym s); most = omega (arith, h .most, ap length s) }
 
 -- all but place i
 unfoldable pub withoutTo : ℕ → List Entry → ℕ → List Entry

@@ -146,16 +146,6 @@ child-out x i n e l = sym (ap (λ (y : Entry). y .child) (List·getD-eq-default 
 pub child-in : (x : Page) (i n : ℕ) → n ≡ length (inUse x) → i < n → getD (x .entries) i zeroEntry .child ≡ getD (inUse x) i zeroEntry .child
 child-in x i n e l = ap (λ (y : Entry). y .child) (used-at x i (omega arith))
 
--- the page with the entry at place i made exact
-pub exact-page : (ps : List Page) (z x y r : Page) (i c : ℕ) (e : Entry) → Tidy x (z .level) (inUse z) → c ≡ getD (inUse x) i zeroEntry .child → e ≡ summaryOf c (page ps c) → Tidy r (x .level) (set (inUse x) i e) → Tidy r (z .level) (exactAt ps (inUse z) i)
-unfolding exactAt
-exact-page ps z x y r i c e h d q o =
-    let a = level-is x (z .level) (inUse z) (h .is) in
-    let b = in-use-is x (z .level) (inUse z) (h .is) in
-    let g : c ≡ getD (inUse z) i zeroEntry .child = d ∙ ap (λ es. getD es i zeroEntry .child) b in
-    let s : set (inUse x) i e ≡ set (inUse z) i (summaryOf (getD (inUse z) i zeroEntry .child) (page ps (getD (inUse z) i zeroEntry .child))) = ap₂ (λ es f. set es i f) b (q ∙ ap (λ n. summaryOf n (page ps n)) g) in
-    rw (← a, ← s) o
-
 -- the four ways back
 pub came-standing : (t u : List ℕ) (p i : ℕ) (o : code-became.Became) (y : Page) (r : code-became.Became) → o ≡ case.Stands → Tidy y (page (pagesOf t) p .level) (exactAt (pagesOf t) (inUse (page (pagesOf t) p)) i)
     → Settles t u r (settled (pagesOf t) p (y .level) (inUse y)) → Settles t u r (cameBack (becameOf o) (pagesOf t) p i)
@@ -185,7 +175,3 @@ came-emptied t u w p i c o x y d e f a g b =
 pub came-again : (t u : List ℕ) (p i : ℕ) (o : code-became.Became) (y : Page) → o ≡ case.Again → Tidy y (page (pagesOf t) p .level) (exactAt (pagesOf t) (inUse (page (pagesOf t) p)) i) → Leaves t u (set (pagesOf t) p y) → Settles t u case.Again (cameBack (becameOf o) (pagesOf t) p i)
 unfolding cameBack comeBack
 came-again t u p i o y d h a = rw d (record { same-length = a .same-length; pages-are = a .pages-are ∙ ap (set (pagesOf t) p) (h .is); became-is = refl })
-
-pub exact-loaded : (ps : List Page) (p : ℕ) (z x r : Page) (i c : ℕ) (e : Entry) → z ≡ page ps p → Tidy x (z .level) (inUse z) → c ≡ getD (inUse x) i zeroEntry .child → e ≡ summaryOf c (page ps c) → Tidy r (x .level) (set (inUse x) i e)
-    → Tidy r (page ps p .level) (exactAt ps (inUse (page ps p)) i)
-exact-loaded ps p z x r i c e d h f q o = subst (λ (y : Page). Tidy r (y .level) (exactAt ps (inUse y) i)) d (exact-page ps z x x r i c e h f q o)

@@ -7,29 +7,10 @@ use pages::Page;
 ghost use mathlib.Core.List.{[], _∷_, _++_};
 ghost use mathlib.Core.Path.{_≡_};
 ghost use Prim.Native.Nat.{_<_, _≤_};
-ghost use lib.ListN.{length, set};
 ghost use Rattle.pages.specs.Layout.{pageEntries};
 ghost use Rattle.pages.specs.Summary.{inUse};
 ghost use Rattle.split.specs.Split.{pageFrom, without};
 ghost use Rattle.rules.specs.Recording.{leafEntry};
-ghost use Rattle.recording.specs.PageSteps.{Tidy};
-
-// The page with its unused entries 0 and its count at most eight, whatever a spoilt table held.
-pub fn tidy(x: Page) -> Page
-    ensures { λ r. ⌜ Tidy r (x .level) (inUse x) ⌝ }
-{
-    let count = used(x);
-    let mut kept = blank_page();
-    let mut i = 0;
-    while i < count {
-        let e = x.entries[i];
-        kept.entries[i] = e;
-        i += 1;
-    }
-    kept.level = x.level;
-    kept.count = count as u16;
-    kept
-}
 
 pub fn leaf_entry(b: Box, v: u16) -> Entry
     ensures { λ r. ⌜ r ≡ leafEntry b v ⌝ }
@@ -49,20 +30,6 @@ pub fn push(x: Page, e: Entry) -> Page
     let k = x.count as usize;
     y.entries[k] = e;
     y.count = x.count + 1;
-    y
-}
-
-// With another entry at a place, if it has that place.
-pub fn put(x: Page, i: usize, e: Entry) -> Page
-    requires { ⌜ Tidy x (x .level) (inUse x) ⌝ }
-    ensures { λ r. ⌜ Tidy r (x .level) (set (inUse x) i e) ⌝ }
-{
-    let count = x.count as usize;
-    if count <= i {
-        return x;
-    }
-    let mut y = x;
-    y.entries[i] = e;
     y
 }
 

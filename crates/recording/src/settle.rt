@@ -1,9 +1,7 @@
 // Settling a page: it is stored, or split if it has nine entries.
 use crate::Became;
 use crate::page::push;
-use crate::page::put;
 use crate::page::take_out;
-use crate::page::tidy;
 use crate::table::child_lying;
 use crate::table::load;
 use crate::table::put_at;
@@ -24,7 +22,6 @@ ghost use Rattle.pages.specs.Layout.{pageEntries, tableFits, pagesOf, zeroEntry
 ghost use Rattle.pages.specs.Summary.{inUse};
 ghost use Rattle.wellformed.specs.WellFormed.{page};
 ghost use Rattle.recording.specs.PageSteps.{Tidy};
-ghost use Rattle.rules.specs.Recording.{exactAt};
 ghost use Rattle.recording.specs.LyingSteps.{exactPage, settledAt};
 ghost use Rattle.recording.specs.SettleSteps.{Settles, settled, cameBack};
 ghost use Rattle.recording.specs.TidyLaws.{TidyPage};
@@ -70,17 +67,7 @@ pub fn child_at(x: Page, i: usize) -> u16
     e.child
 }
 
-// Page p with its entry at place i made exact for the child as it now is.
-fn exact_page(t: &[u16], p: usize, i: usize) -> Page
-    requires { ⌜ tableFits (now t) ≡ true ⌝ }
-    ensures { λ r. ⌜ Tidy r (page (pagesOf (now (t .entry))) p .level) (exactAt (pagesOf (now (t .entry))) (inUse (page (pagesOf (now (t .entry))) p)) i) ⌝ }
-{
-    let x = tidy(load(t, p));
-    let child = child_at(x, i);
-    put(x, i, summary(t, child))
-}
-
-// The same where the page lies.
+// The entry at place i made exact for the child as it now is, where the page lies.
 fn make_exact(t: &mut [u16], p: usize, i: usize)
     requires { ⌜ (tableFits (now t) ≡ true) × TidyPage (page (pagesOf (now t)) p) ⌝ }
     ensures { λ r. ⌜ Leaves (now (t .entry)) (now (t .exit)) (set (pagesOf (now (t .entry))) p (exactPage (pagesOf (now (t .entry))) p i)) ⌝ }
@@ -127,8 +114,7 @@ pub fn come_back(t: &mut [u16], p: usize, i: usize, child: Became) -> Became
             Became::Again
         }
         Became::Again => {
-            let x = exact_page(t, p, i);
-            store(t, p, x);
+            make_exact(t, p, i);
             Became::Again
         }
     }

@@ -1,7 +1,7 @@
 -- `recording::settle::come_back` meets its contract.
 use Rattle.recording.specs.TableSteps.{still-fits}
-use Rattle.recording.specs.SettleSteps.{came-emptied, came-again}
-use Rattle.recording.specs.LyingSteps.{exact-tidy-there, came-standing-here, came-split-here}
+use Rattle.recording.specs.SettleSteps.{came-emptied}
+use Rattle.recording.specs.LyingSteps.{exact-tidy-there, came-standing-here, came-split-here, came-again-here}
 use borrow.Author.Needs.{needs}
 use Rattle.recording.proofs.settle.come_back.Statement.{statement}
 use Rattle.recording.proofs.settle.come_back.Tie as tie
@@ -48,11 +48,8 @@ store-requires c κs = still-fits (c .before .before .before .before .before .be
 enum-told-3 : tie.Need-enum-told-3
 enum-told-3 c = search needs
 
-exact-page-requires : tie.Need-exact-page-requires
-exact-page-requires c κs = search needs
-
-store-requires-2 : tie.Need-store-requires-2
-store-requires-2 c κs = search needs
+make-exact-requires-3 : tie.Need-make-exact-requires-3
+make-exact-requires-3 c κs = search needs
 
 same-length : tie.Need-same-length
 same-length c = search needs
@@ -76,7 +73,7 @@ same-length-4 : tie.Need-same-length-4
 same-length-4 c = search needs
 
 returns-4 : tie.Need-returns-4
-returns-4 c = came-again _ _ _ _ _ (c .before .before .before .before .exact-page .result) (c .before .before .before .before .before .before .enum-told3 .given .1) (c .before .before .before .before .exact-page .ensures) (c .before .before .store2 .ensures)
+returns-4 c = came-again-here (c .before .before .before .before .before .before .before .args .t .now) (c .before .before .before .before .before .before .before .args .p) (c .before .before .before .before .before .before .before .pre .1) _ (c .before .before .before .before .before .before .before .args .i) _ (c .before .before .before .before .enum-told3 .given .1) (c .before .before .make-exact3 .ensures)
 
 pub come-back-spec : {M : Type 1} → statement M
 come-back-spec =
@@ -96,8 +93,7 @@ come-back-spec =
     take-out-requires
     store-requires
     enum-told-3
-    exact-page-requires
-    store-requires-2
+    make-exact-requires-3
     same-length
     returns
     same-length-2
