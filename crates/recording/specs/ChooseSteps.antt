@@ -61,6 +61,11 @@ grown-is b p s g q h = omega (arith, grows b p)
 pub choice-made : (b : Box) (e : Entry) (i s g : ℕ) → s ≡ size (e .place) → g ≡ size (join (e .place) b) → _≡_ {A = Choice} (record { at = i; growth = g - s; size = s }) (choiceOf b e i)
 choice-made b e i s g q r = choice-is b e i g s (g - s) r q refl
 
+-- chosen number by number
+pub choice-chosen : (t : Bool) (x y : Choice) (a g s : ℕ) → a ≡ cond t (x .at) (y .at) → g ≡ cond t (x .growth) (y .growth) → s ≡ cond t (x .size) (y .size) → _≡_ {A = Choice} (record { at = a; growth = g; size = s }) (cond t x y)
+choice-chosen true x y a g s p q r = λ i. record { at = p i; growth = q i; size = r i }
+choice-chosen false x y a g s p q r = λ i. record { at = p i; growth = q i; size = r i }
+
 pub choose-none : (b : Box) (es : List Entry) (n : ℕ) → n ≡ length es → n ≡ 0 → 0 ≡ choose b es
 unfolding choose leastGrown
 choose-none b es n e z = let y : length es - 1 ≡ 0 = omega arith in rw y

@@ -21,6 +21,13 @@ pub struct Choice {
     pub size: u64,
 }
 
+// Number by number, so that no branch is made of it.
+fn either(first: bool, a: u64, b: u64) -> u64
+    ensures { λ r. ⌜ r ≡ cond first a b ⌝ }
+{
+    if first { a } else { b }
+}
+
 impl Choice {
     fn of(b: Box, e: Entry, at: u64) -> Choice
         ensures { λ r. ⌜ r ≡ choiceOf b e at ⌝ }
@@ -37,12 +44,13 @@ impl Choice {
     fn or_later(self, later: Choice) -> Choice
         ensures { λ r. ⌜ r ≡ cond (lessOrTie (later .growth) (self .growth) (ltb (later .size) (self .size))) later self ⌝ }
     {
-        if (later.growth < self.growth)
-            | ((later.growth == self.growth) & (later.size < self.size))
-        {
-            return later;
+        let takes = (later.growth < self.growth)
+            | ((later.growth == self.growth) & (later.size < self.size));
+        Choice {
+            at: either(takes, later.at, self.at),
+            growth: either(takes, later.growth, self.growth),
+            size: either(takes, later.size, self.size),
         }
-        self
     }
 }
 
