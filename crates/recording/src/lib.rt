@@ -15,6 +15,7 @@ mod table;
 mod walk;
 
 pub use call::record;
+pub use call::record_sound;
 use ground::Box;
 use pages::Small;
 pub use sound::recorded;

@@ -3,6 +3,7 @@ use ground::Box;
 use ground::Gust;
 use pages::Small;
 use wellformed::Checked;
+ghost use mathlib.Core.Bool.{true};
 ghost use mathlib.Core.Path.{_≡_};
 ghost use Rattle.wellformed.specs.WellFormed.{wellFormed};
 ghost use Rattle.rules.specs.Record.{refusal};
@@ -32,6 +33,28 @@ pub fn refusal(t: &[u16], s: Small, b: Box, v: u16) -> u8
     }
     if !is_well_formed(t, s) {
         return 4;
+    }
+    if s.accepted == Small::MOST_ACCEPTED {
+        return 5;
+    }
+    let height = s.height as usize;
+    if !pages::free_at_least(t, height + 1) {
+        return 6;
+    }
+    0
+}
+
+// The same on a book known to be well-formed: refusals 2, 3, 5 and 6, without the pass over the table.
+pub fn sound_refusal(t: &[u16], s: Small, b: Box, v: u16) -> u8
+    requires { ⌜ wellFormed (now t) s ≡ true ⌝ }
+    ensures { λ r. ⌜ r ≡ refusal (now (t .entry)) s b v ⌝ }
+{
+    if !b.legal() {
+        return 2;
+    }
+    let gust = Gust { tenths: v };
+    if !gust.passes() {
+        return 3;
     }
     if s.accepted == Small::MOST_ACCEPTED {
         return 5;

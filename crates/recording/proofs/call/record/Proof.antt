@@ -1,5 +1,6 @@
 -- `recording::call::record` meets its contract.
-use Rattle.recording.specs.CallSteps.{call-refused, call-accepted, call-answered}
+use mathlib.Core.Path.{ap, _∙_}
+use Rattle.recording.specs.CallSteps.{calledOf, call-refused, call-accepted, call-answered}
 use borrow.Author.Needs.{needs}
 use Rattle.recording.proofs.call.record.Statement.{statement}
 use Rattle.recording.proofs.call.record.Tie as tie
@@ -16,13 +17,23 @@ returns c = call-refused (c .before .before .before .before .args .t .now) (c .b
 recorded-requires : tie.Need-recorded-requires
 recorded-requires c κs = call-accepted (c .before .before .before .before .before .args .t .now) (c .before .before .before .before .before .args .s) (c .before .before .before .before .before .args .b) (c .before .before .before .before .before .args .v) (c .before .before .refusal .result) (c .before .before .refusal .ensures) (c .before .if1 .left)
 
+answer-requires : tie.Need-answer-requires
+answer-requires c κs = tt
+
 same-length-2 : tie.Need-same-length-2
 same-length-2 c = search needs
 
 returns-2 : tie.Need-returns-2
-returns-2 c = call-answered (c .before .before .before .before .before .before .before .before .before .args .t .now) (c .before .before .before .before .before .before .before .before .before .args .s) (c .before .before .before .before .before .before .before .before .before .args .b) (c .before .before .before .before .before .before .before .before .before .args .v) (c .before .before .before .before .before .before .refusal .result) (c .before .before .before .before .before .before .refusal .ensures) _ (c .before .before .before .recorded .result) (c .before .before .before .before .before .if1 .left) (c .before .before .before .recorded .ensures)
+returns-2 c = ap (λ x. calledOf (c .before .before .before .recorded .last .0) x) (c .answer .ensures) ∙ call-answered (c .before .before .before .before .before .before .before .before .before .args .t .now) (c .before .before .before .before .before .before .before .before .before .args .s) (c .before .before .before .before .before .before .before .before .before .args .b) (c .before .before .before .before .before .before .before .before .before .args .v) (c .before .before .before .before .before .before .refusal .result) (c .before .before .before .before .before .before .refusal .ensures) (c .before .before .before .recorded .last .0) (c .before .before .before .recorded .result) (c .before .before .before .before .before .if1 .left) (c .before .before .before .recorded .ensures)
 
 pub record-spec : {M : Type 1} → statement M
 record-spec =
     tie.close
-    (tie.spec refusal-requires same-length returns recorded-requires same-length-2 returns-2)
+    (tie.spec
+    refusal-requires
+    same-length
+    returns
+    recorded-requires
+    answer-requires
+    same-length-2
+    returns-2)
