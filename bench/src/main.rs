@@ -72,7 +72,7 @@ fn filled_to(pages: usize, free: usize, spread: &Spread, seed: &mut Seed) -> Boo
     (table, small)
 }
 
-/// The walk alone, and recording with all its tests, in books half full and nearly full.
+/// Recording without the pass over the table (the walk), and with it, in books half full and nearly full.
 fn recording_rows(pages: usize, name: &str, spread: &Spread, seed: &mut Seed) {
     let many = 40;
     for (part, free) in [("half", pages / 2), ("nearly", 40)] {
@@ -83,8 +83,8 @@ fn recording_rows(pages: usize, name: &str, spread: &Spread, seed: &mut Seed) {
             &start,
             &runs,
             |(t, s), (q, v)| {
-                // SAFETY: the book is well-formed, and has room for a run, as the second program finds.
-                let _ = black_box(unsafe { proved::recorded(t, s, q, v) });
+                // SAFETY: the book is well-formed, and every record leaves it so.
+                let _ = black_box(unsafe { proved::record_sound(t, s, q, v) }.expect("there is room"));
             },
             |(t, s), new| {
                 let _ = black_box(record_in_second(t, s, new).expect("there is room"));

@@ -48,7 +48,7 @@ extern "C" {
         d1: u16,
         gust: u16,
     ) -> u64;
-    fn gust_probe_recorded(
+    fn gust_probe_record_sound(
         t: *mut u16,
         n: usize,
         small: *mut [u32; 5],
@@ -180,14 +180,19 @@ pub fn record(t: &mut [u16], s: &mut SmallRecord, q: [u16; 6], gust: u16) -> Res
     unpacked(said)
 }
 
-/// The walk alone, with no test.
+/// The same without the pass over the table, as the second program's `record_sound`.
 ///
 /// # Safety
-/// The book is well-formed, the box and the gust are legal, and the record would not be refused.
-pub unsafe fn recorded(t: &mut [u16], s: &mut SmallRecord, q: [u16; 6], gust: u16) -> Recorded {
+/// The book is well-formed.
+pub unsafe fn record_sound(
+    t: &mut [u16],
+    s: &mut SmallRecord,
+    q: [u16; 6],
+    gust: u16,
+) -> Result<Recorded, u32> {
     let [e0, e1, n0, n1, d0, d1] = q;
     let mut five = numbers(s);
-    let said = gust_probe_recorded(
+    let said = gust_probe_record_sound(
         t.as_mut_ptr(),
         t.len(),
         &mut five,
@@ -200,5 +205,5 @@ pub unsafe fn recorded(t: &mut [u16], s: &mut SmallRecord, q: [u16; 6], gust: u1
         gust,
     );
     put_numbers(s, five);
-    unpacked(said).expect("the walk answers")
+    unpacked(said)
 }

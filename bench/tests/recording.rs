@@ -35,17 +35,14 @@ impl Twice {
         self.alike(ours, theirs, (place, gust), what)
     }
 
-    /// The walk alone; what the second program refuses goes through the call, so that it is refused too.
+    /// The call without the pass over the table.
     fn record_sound(&mut self, (place, gust): Record, what: &str) -> Result<Recorded, u32> {
         let (table, small) = (&mut self.theirs.0, &mut self.theirs.1);
         let theirs =
             record_in_second(table, small, (place, gust)).map_err(|r| u32::from(r.number()));
         let (table, small) = (&mut self.ours.0, &mut self.ours.1);
-        let ours = match theirs {
-            // SAFETY: the book was well-formed before, and the second program took the record.
-            Ok(_) => Ok(unsafe { proved::recorded(table, small, place, gust) }),
-            Err(_) => proved::record(table, small, place, gust),
-        };
+        // SAFETY: the book is well-formed, and every record leaves it so.
+        let ours = unsafe { proved::record_sound(table, small, place, gust) };
         self.alike(ours, theirs, (place, gust), what)
     }
 

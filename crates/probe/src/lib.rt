@@ -8,10 +8,11 @@ use pages::Small;
 use recording::Outcome;
 use recording::Reply;
 use wellformed::Checked;
+ghost use mathlib.Core.Bool.{true};
 ghost use mathlib.Core.Path.{_≡_};
 ghost use Prim.Native.Nat.{_≤_};
-ghost use Rattle.rules.specs.RecordLaws.{Accepted};
-ghost use Rattle.probe.specs.Probe.{checkedNumber, askedNumber, packed, boxOf, smallOf};
+ghost use Rattle.wellformed.specs.WellFormed.{wellFormed};
+ghost use Rattle.probe.specs.Probe.{checkedNumber, askedNumber, packed, smallOf};
 
 // 0 for a damaged book, else the number of held records and one more.
 #[no_mangle]
@@ -210,9 +211,9 @@ pub extern "C" fn gust_probe_record(
     pack_reply(reply)
 }
 
-// The walk alone, for a book and a record that no test would refuse.
+// The same on a book known to be well-formed, without the pass over the table.
 #[no_mangle]
-pub extern "C" fn gust_probe_recorded(
+pub extern "C" fn gust_probe_record_sound(
     table: &mut [u16],
     numbers: &mut [u32; 5],
     east_low: u16,
@@ -223,7 +224,7 @@ pub extern "C" fn gust_probe_recorded(
     day_high: u16,
     gust: u16,
 ) -> u64
-    requires { ⌜ Accepted (now table) (smallOf (now numbers)) (boxOf «east_low» «east_high» «north_low» «north_high» «day_low» «day_high») gust ⌝ }
+    requires { ⌜ wellFormed (now table) (smallOf (now numbers)) ≡ true ⌝ }
 {
     let east = Range {
         low: east_low,
@@ -237,8 +238,8 @@ pub extern "C" fn gust_probe_recorded(
         low: day_low,
         high: day_high,
     };
-    let done = recording::recorded(table, small_of(numbers), Box { east, north, day }, gust);
-    put_small(numbers, done.small);
-    let outcome = done.outcome;
-    pack_answer(outcome, done.struck)
+    let called = recording::record_sound(table, small_of(numbers), Box { east, north, day }, gust);
+    put_small(numbers, called.small);
+    let reply = called.reply;
+    pack_reply(reply)
 }
