@@ -1,0 +1,129 @@
+-- Document 01, "The counter program": every line is answered by the book, and the answers are printed in order.
+use Prim.Native.Nat.{ℕ, _+_}
+use mathlib.Core.Bool.{Bool, true, false}
+use mathlib.Core.List.{List, [], _∷_, _++_}
+use lib.Dec.{eqb}
+use lib.ListN.{length, take}
+use Rattle.asking.specs.Asking.{asked}
+use Rattle.asking.specs.declared.Asked.{Asked}
+use Rattle.asking.specs.declared.Asked.the-variants as ask
+use Rattle.index.specs.Calls.{counted}
+use Rattle.index.specs.Run.{Call, Call.Record, Call.Ask, Call.Count, Book, after}
+use Rattle.index.specs.declared.Counted.{Counted}
+use Rattle.index.specs.declared.Counted.the-variants as count
+use Rattle.lines.specs.Lines.{parsed, longestLine, lineRefusal}
+use Rattle.lines.specs.Narrow.{asTyped}
+use Rattle.lines.specs.Printing.{printed}
+use Rattle.lines.specs.declared.printing.Answer.{Answer}
+use Rattle.lines.specs.declared.printing.Answer.the-variants as told
+use Rattle.lines.specs.declared.reading.Line.{Line}
+use Rattle.lines.specs.declared.reading.Line.the-variants as typed
+use Rattle.rules.specs.Record.{Reply, Reply.Refused, Reply.Answered, recordInto}
+use Rattle.rules.specs.Recording.{Outcome, Outcome.Kept, Outcome.Cut, Outcome.Covered}
+
+-- The call that a line is, with the numbers as they were typed. A line of none of the forms is no call.
+unfoldable pub callsOf : Line → List Call
+callsOf (typed.Add b v) = Record (asTyped b) v ∷ []
+callsOf (typed.Ask q) = Ask (asTyped q) ∷ []
+callsOf typed.Count = Count ∷ []
+callsOf typed.Refused = []
+
+-- What the book's answers are called when they are printed. Refusals are printed alike.
+unfoldable pub outcomeSays : Outcome → ℕ → Answer
+outcomeSays Kept struck = told.Kept struck
+outcomeSays Cut struck = told.Cut struck
+outcomeSays Covered struck = told.Covered struck
+
+unfoldable pub recordSays : Reply → Answer
+recordSays (Refused n) = told.Refused n
+recordSays (Answered a) = outcomeSays (a .outcome) (a .struck)
+
+unfoldable pub askSays : Asked → Answer
+askSays (ask.Refused n) = told.Refused n
+askSays (ask.Nothing pages) = told.Nothing pages
+askSays (ask.Gust gust pages) = told.Gust gust pages
+
+unfoldable pub countSays : Counted → Answer
+countSays (count.Refused n) = told.Refused n
+countSays (count.Counts accepted held struck covered) = told.Counts accepted held struck covered
+
+-- The answer to a line on a book; a line of none of the forms is refused by 9.
+unfoldable pub answerTo : Line → Book → Answer
+answerTo (typed.Add b v) k = recordSays (recordInto (k .table) (k .small) (asTyped b) v .reply)
+answerTo (typed.Ask q) k = askSays (asked (k .table) (k .small) (asTyped q))
+answerTo typed.Count k = countSays (counted (k .table) (k .small))
+answerTo typed.Refused k = told.Refused lineRefusal
+
+-- The book after a line: what its call leaves.
+unfoldable pub afterAll : List Call → Book → Book
+afterAll [] k = k
+afterAll (c ∷ cs) k = afterAll cs (after c k)
+
+abbrev pub bookAfter : Line → Book → Book
+bookAfter l k = afterAll (callsOf l) k
+
+-- The whole input, line by line. A line ends with byte 10, which the last may lack.
+abbrev pub lineEnd : ℕ
+lineEnd = 10
+
+unfoldable pub withByte : Bool → ℕ → List (List ℕ) → List (List ℕ)
+withByte true b ls = [] ∷ ls
+withByte false b [] = (b ∷ []) ∷ []
+withByte false b (l ∷ ls) = (b ∷ l) ∷ ls
+
+unfoldable pub linesOf : List ℕ → List (List ℕ)
+linesOf [] = []
+linesOf (b ∷ bs) = withByte (eqb b lineEnd) b (linesOf bs)
+
+-- The whole output: the answers in order, each on the book that the lines before it left.
+unfoldable pub served : List (List ℕ) → Book → List ℕ
+served [] k = []
+served (l ∷ ls) k = printed (answerTo (parsed l) k) ++ served ls (bookAfter (parsed l) k)
+
+-- The book that the lines leave, and the calls that they are.
+unfoldable pub bookServed : List (List ℕ) → Book → Book
+bookServed [] k = k
+bookServed (l ∷ ls) k = bookServed ls (bookAfter (parsed l) k)
+
+unfoldable pub callsIn : List (List ℕ) → List Call
+callsIn [] = []
+callsIn (l ∷ ls) = callsOf (parsed l) ++ callsIn ls
+
+-- Between two bytes of the input: the book, the line so far, and what is printed so far.
+pub record Counter : Type 0 where
+  pub book : Book
+  pub line : List ℕ
+  pub out : List ℕ
+
+-- At first: a book, and a line that has not begun.
+abbrev pub opening : Book → Counter
+opening k = record { book = k; line = []; out = [] }
+
+-- A line that is too long stays so: one byte more than the longest line is all that is kept of it.
+abbrev pub kept : List ℕ → List ℕ
+kept line = take (longestLine + 1) line
+
+-- The line ends: its answer is printed, and the next line begins.
+unfoldable pub ended : Counter → Counter
+ended c = let l = parsed (c .line) in record { book = bookAfter l (c .book); line = []; out = c .out ++ printed (answerTo l (c .book)) }
+
+unfoldable pub longer : List ℕ → Counter → Counter
+longer bytes c = record { book = c .book; line = kept (c .line ++ bytes); out = c .out }
+
+-- One byte of the input: byte 10 ends the line, any other belongs to it.
+unfoldable pub byByte : Bool → ℕ → Counter → Counter
+byByte true b c = ended c
+byByte false b c = longer (b ∷ []) c
+
+-- The input, byte by byte.
+unfoldable pub fed : List ℕ → Counter → Counter
+fed [] c = c
+fed (b ∷ bs) c = fed bs (byByte (eqb b lineEnd) b c)
+
+-- The input's end ends a line that has begun.
+unfoldable pub finishedBy : List ℕ → Counter → Counter
+finishedBy [] c = c
+finishedBy (b ∷ bs) c = ended c
+
+abbrev pub finished : Counter → Counter
+finished c = finishedBy (c .line) c
