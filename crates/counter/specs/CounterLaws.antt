@@ -114,7 +114,7 @@ served-calls (l ∷ ls) k = served-calls ls (bookAfter (parsed l) k) ∙ sym (af
 pub lines-good :
     (input t : List ℕ) → tableFits t ≡ true
     → let k : Book = record { table = emptyTable t; small = emptySmall } in let m = run (callsIn (linesOf input)) (record { book = k; list = [] }) in
-      (finished (fed input (opening k)) .book ≡ m .book) × Good m
+    (finished (fed input (opening k)) .book ≡ m .book) × Good m
 lines-good input t e =
     let k : Book = record { table = emptyTable t; small = emptySmall } in
     let cs = callsIn (linesOf input) in

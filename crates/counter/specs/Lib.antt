@@ -3,3 +3,5 @@ pub mod Counter
 pub mod CounterLaws
 pub mod TypedCalls
 pub mod Steps
+pub mod FeedSteps
+pub mod Feeding

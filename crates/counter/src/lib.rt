@@ -1,10 +1,10 @@
 // The counter program's whole work but for reading and writing: bytes of input become bytes to print.
 mod answering;
+mod feeding;
 
-
-
-
-
+pub use feeding::feed;
+pub use feeding::finish;
+pub use feeding::open;
 use pages::Small;
 ghost use mathlib.Core.Path.{_≡_};
 

@@ -3,12 +3,6 @@ use Rattle.counter.specs.Steps.{told-add}
 use borrow.Author.Needs.{needs}
 use Rattle.counter.proofs.answering.add.Statement.{statement}
 use Rattle.counter.proofs.answering.add.Tie as tie
-use Rattle.counter.proofs.answering.add.Reads as reads
-use Rattle.counter.proofs.answering.add.Lts as lts
-use Rattle.counter.proofs.answering.record_says.Reads as record-says-reads
-use Rattle.lines.proofs.reading.Typed.narrow.Reads as reading-Typed-narrow-reads
-use Rattle.lines.proofs.narrow.Reads as reading-narrow-reads
-use Rattle.recording.proofs.record_sound.Reads as record-sound-reads
 
 narrow-requires : tie.Need-narrow-requires
 narrow-requires c κs = tt

@@ -1,16 +1,8 @@
 -- `counter::answering::answer` meets its contract.
-use mathlib.Core.Path.{sym, subst}
-use Rattle.counter.specs.Steps.{told-ask, told-count, told-refused, Tells}
+use Rattle.counter.specs.Steps.{told-ask, told-count, told-refused}
 use borrow.Author.Needs.{needs}
 use Rattle.counter.proofs.answering.answer.Statement.{statement}
 use Rattle.counter.proofs.answering.answer.Tie as tie
-use Rattle.counter.proofs.answering.answer.Reads as reads
-use Rattle.counter.proofs.answering.answer.Lts as lts
-use Rattle.asking.proofs.ask.Reads as ask-reads
-use Rattle.counter.proofs.answering.add.Reads as add-reads
-use Rattle.counter.proofs.answering.ask_says.Reads as ask-says-reads
-use Rattle.counter.proofs.answering.count_says.Reads as count-says-reads
-use Rattle.lines.proofs.reading.Typed.narrow.Reads as narrow-reads
 
 enum-known-line : tie.Need-enum-known-line
 enum-known-line c = search needs

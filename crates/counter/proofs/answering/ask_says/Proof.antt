@@ -1,11 +1,9 @@
 -- `counter::answering::ask_says` meets its contract.
-use mathlib.Core.Path.{refl, _∙_}
+use mathlib.Core.Path.{refl}
 use Rattle.counter.specs.Counter.{askSays}
 use borrow.Author.Needs.{needs}
 use Rattle.counter.proofs.answering.ask_says.Statement.{statement}
 use Rattle.counter.proofs.answering.ask_says.Tie as tie
-use Rattle.counter.proofs.answering.ask_says.Reads as reads
-use Rattle.counter.proofs.answering.ask_says.Lts as lts
 
 enum-known-asked : tie.Need-enum-known-asked
 enum-known-asked c = search needs

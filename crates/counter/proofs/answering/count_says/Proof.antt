@@ -3,8 +3,6 @@ use native.Mathlib.Omega.{arith}
 use Rattle.counter.specs.Steps.{count-sound}
 use Rattle.counter.proofs.answering.count_says.Statement.{statement}
 use Rattle.counter.proofs.answering.count_says.Tie as tie
-use Rattle.counter.proofs.answering.count_says.Reads as reads
-use Rattle.counter.proofs.answering.count_says.Lts as lts
 
 sub-t3 : tie.Need-sub-t3
 sub-t3 c = omega (arith, count-sound _ _ (c .before .pre) .few)

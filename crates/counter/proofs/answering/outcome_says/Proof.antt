@@ -4,8 +4,6 @@ use mathlib.Core.Path.{refl}
 use borrow.Author.Needs.{needs}
 use Rattle.counter.proofs.answering.outcome_says.Statement.{statement}
 use Rattle.counter.proofs.answering.outcome_says.Tie as tie
-use Rattle.counter.proofs.answering.outcome_says.Reads as reads
-use Rattle.counter.proofs.answering.outcome_says.Lts as lts
 
 enum-told : tie.Need-enum-told
 enum-told c = search needs

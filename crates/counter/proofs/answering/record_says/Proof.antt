@@ -1,12 +1,9 @@
 -- `counter::answering::record_says` meets its contract.
-use mathlib.Core.Path.{refl, _∙_}
+use mathlib.Core.Path.{refl}
 use Rattle.counter.specs.Counter.{recordSays}
 use borrow.Author.Needs.{needs}
 use Rattle.counter.proofs.answering.record_says.Statement.{statement}
 use Rattle.counter.proofs.answering.record_says.Tie as tie
-use Rattle.counter.proofs.answering.record_says.Reads as reads
-use Rattle.counter.proofs.answering.record_says.Lts as lts
-use Rattle.counter.proofs.answering.outcome_says.Reads as outcome-says-reads
 
 enum-known-reply : tie.Need-enum-known-reply
 enum-known-reply c = search needs

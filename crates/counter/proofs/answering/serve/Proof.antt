@@ -4,11 +4,6 @@ use Rattle.counter.specs.Steps.{served-line}
 use borrow.Author.Needs.{needs}
 use Rattle.counter.proofs.answering.serve.Statement.{statement}
 use Rattle.counter.proofs.answering.serve.Tie as tie
-use Rattle.counter.proofs.answering.serve.Reads as reads
-use Rattle.counter.proofs.answering.serve.Lts as lts
-use Rattle.counter.proofs.answering.answer.Reads as answer-reads
-use Rattle.lines.proofs.print.Reads as print-reads
-use Rattle.lines.proofs.parse.Reads as parse-reads
 
 parse-requires : tie.Need-parse-requires
 parse-requires c κs = tt
