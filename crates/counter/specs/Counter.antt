@@ -127,3 +127,15 @@ finishedBy (b ∷ bs) c = ended c
 
 abbrev pub finished : Counter → Counter
 finished c = finishedBy (c .line) c
+
+-- Input comes in chunks, cut anywhere. After each, what it printed is written; after the last, a line that has begun is ended.
+abbrev pub written : Counter → Counter
+written c = record { book = c .book; line = c .line; out = [] }
+
+unfoldable pub whole : List (List ℕ) → List ℕ
+whole [] = []
+whole (chunk ∷ chunks) = chunk ++ whole chunks
+
+unfoldable pub allWritten : List (List ℕ) → Counter → List ℕ
+allWritten [] c = finished c .out
+allWritten (chunk ∷ chunks) c = let d = fed chunk c in d .out ++ allWritten chunks (written d)

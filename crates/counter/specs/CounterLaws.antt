@@ -18,7 +18,7 @@ use Rattle.lines.specs.declared.reading.Line.{Line}
 use Rattle.pages.specs.Free.{emptyTable, emptySmall}
 use Rattle.pages.specs.Layout.{tableFits}
 use Rattle.wellformed.specs.WellFormed.{wellFormed}
-use Rattle.counter.specs.Counter.{callsOf, answerTo, afterAll, bookAfter, lineEnd, withByte, linesOf, served, bookServed, callsIn, Counter, opening, kept, ended, longer, byByte, fed, finishedBy, finished}
+use Rattle.counter.specs.Counter.{callsOf, answerTo, afterAll, bookAfter, lineEnd, withByte, linesOf, served, bookServed, callsIn, Counter, opening, kept, ended, longer, byByte, fed, finishedBy, finished, written, whole, allWritten}
 
 -- However the input is cut, its chunks come to the whole.
 pub fed-append : (xs ys : List ℕ) (c : Counter) → fed (xs ++ ys) c ≡ fed ys (fed xs c)
@@ -93,6 +93,46 @@ ends (b ∷ bs) = λ l k o. ends-byte bs (ends bs) (eqb b lineEnd) b l k o
 pub line-by-line : (input : List ℕ) (k : Book) → finished (fed input (opening k)) ≡ record { book = bookServed (linesOf input) k; line = []; out = served (linesOf input) k }
 unfolding atEnd Ends
 line-by-line input k = ends input [] k [] ∙ ap (λ ls. atEnd ls k []) (joined-none (linesOf input))
+
+-- what was printed before stands before what is printed now
+behind : List ℕ → Counter → Counter
+behind o c = record { book = c .book; line = c .line; out = o ++ c .out }
+
+ended-behind : (o : List ℕ) (c : Counter) → ended (behind o c) ≡ behind o (ended c)
+unfolding behind ended
+ended-behind o c =
+    let l = parsed (c .line) in
+    λ i. record { book = bookAfter l (c .book); line = []; out = append-assoc o (c .out) (printed (answerTo l (c .book))) i }
+
+fed-behind : (bs o : List ℕ) (c : Counter) → fed bs (behind o c) ≡ behind o (fed bs c)
+unfolding fed behind byByte longer
+fed-behind [] o c = refl
+fed-behind (b ∷ bs) o c = by-test (eqb b lineEnd) (λ x. fed-behind bs o x)
+  where
+    by-test : (t : Bool) → ((x : Counter) → fed bs (behind o x) ≡ behind o (fed bs x)) → fed bs (byByte t b (behind o c)) ≡ behind o (fed bs (byByte t b c))
+    by-test true more = ap (fed bs) (ended-behind o c) ∙ more (ended c)
+    by-test false more = more (longer (b ∷ []) c)
+
+finished-behind : (l o : List ℕ) (c : Counter) → finishedBy l (behind o c) .out ≡ o ++ finishedBy l c .out
+unfolding finishedBy behind
+finished-behind [] o c = refl
+finished-behind (b ∷ l) o c = ap (λ (x : Counter). x .out) (ended-behind o c)
+
+chunks-whole : (chunks : List (List ℕ)) (c : Counter) → allWritten chunks c ≡ finished (fed (whole chunks) c) .out
+unfolding allWritten whole behind fed
+chunks-whole [] c = refl
+chunks-whole (chunk ∷ chunks) c =
+    let d = fed chunk c in
+    let same : d ≡ behind (d .out) (written d) = λ i. record { book = d .book; line = d .line; out = sym (append-nil (d .out)) i } in
+    let rest = fed (whole chunks) (written d) in
+    ap (λ (l : List ℕ). d .out ++ l) (chunks-whole chunks (written d))
+    ∙ sym (finished-behind (rest .line) (d .out) rest)
+    ∙ sym (ap (λ (x : Counter). finished x .out) (ap (fed (whole chunks)) same ∙ fed-behind (whole chunks) (d .out) (written d)))
+    ∙ sym (ap (λ (x : Counter). finished x .out) (fed-append chunk (whole chunks) c))
+
+-- All that is written is a function of the whole input, whatever its chunks: the answers to its lines, in order.
+pub whatever-chunks : (chunks : List (List ℕ)) (k : Book) → allWritten chunks (opening k) ≡ served (linesOf (whole chunks)) k
+whatever-chunks chunks k = chunks-whole chunks (opening k) ∙ ap (λ (x : Counter). x .out) (line-by-line (whole chunks) k)
 
 -- the book is that of a run of the lines' calls
 after-append : (xs ys : List Call) (k : Book) → afterAll (xs ++ ys) k ≡ afterAll ys (afterAll xs k)
