@@ -5,11 +5,11 @@ mod numbers;
 
 use answers::tell_asked;
 use answers::tell_counted;
-use answers::tell_recorded;
+pub use answers::tell_recorded;
 use lines::narrow;
-use numbers::box_of;
-use numbers::put_small;
-use numbers::small_of;
+pub use numbers::box_of;
+pub use numbers::put_small;
+pub use numbers::small_of;
 ghost use mathlib.Core.Path.{_≡_};
 ghost use Rattle.asking.specs.Asking.{asked};
 ghost use Rattle.index.specs.Calls.{cleared, counted, saved, loaded};
