@@ -81,12 +81,10 @@ impl<'a> Chooser<'a> {
     /// Takes note of what became of a call.
     pub fn told(&mut self, call: &Call, said: &Said) {
         self.full = said.number == 6;
-        match call {
-            Call::Record(place, gust) | Call::RecordSound(place, gust) if said.number == 0 => {
+        if let Call::Record(place, gust) | Call::RecordSound(place, gust) = call {
+            if said.number == 0 {
                 self.earlier.push((*place, *gust));
             }
-            Call::Clear => self.earlier.clear(),
-            _ => {}
         }
     }
 
@@ -105,7 +103,7 @@ impl<'a> Chooser<'a> {
             0 => Call::Count,
             1 => Call::Save,
             2 if self.style.accidents.is_none() => {
-                self.waiting.push_back(Call::Save);
+                self.waiting.extend([Call::Save, Call::Clear]);
                 Call::Load
             }
             3..40 => Call::Ask(self.asked()),

@@ -72,19 +72,9 @@ impl Call {
 
     fn befall(&self, lent: &mut Lent) {
         match *self {
-            Call::Word(at, word) => lent
-                .table
-                .iter_mut()
-                .skip(at)
-                .take(1)
-                .for_each(|w| *w = word),
+            Call::Word(at, word) => put(&mut lent.table, at, word),
             Call::Number(at, number) => lent.small[at] = number,
-            Call::Byte(at, byte) => lent
-                .image
-                .iter_mut()
-                .skip(at)
-                .take(1)
-                .for_each(|b| *b = byte),
+            Call::Byte(at, byte) => put(&mut lent.image, at, byte),
             Call::Words(words) => lent.table.resize(words, 0),
             Call::Bytes(bytes) => lent.image.resize(bytes, 0),
             Call::Exchange(p, q) => {
@@ -96,6 +86,13 @@ impl Call {
             Call::Noise(seed) => noise(&mut lent.table, &mut lent.small, &mut Seed(seed)),
             _ => {}
         }
+    }
+}
+
+/// Puts something at a place, if there is one.
+fn put<T>(all: &mut [T], at: usize, new: T) {
+    if let Some(old) = all.get_mut(at) {
+        *old = new;
     }
 }
 
@@ -331,37 +328,37 @@ impl Run {
         calls.find_map(|(at, call)| twice.call(call).err().map(|what| (at, what)))
     }
 
-    fn without(&self, from: usize, many: usize) -> Run {
-        let (front, back) = (&self.calls[..from], &self.calls[from..]);
-        let calls = [front, &back[many.min(back.len())..]].concat();
-        Run {
-            pages: self.pages,
-            calls,
-        }
-    }
-
-    /// The shortest run found by leaving calls out, in ever smaller pieces, as long as it still fails.
-    pub fn shortest(mut self, fails: impl Fn(&Run) -> bool) -> Run {
-        let mut piece = self.calls.len();
-        while piece > 0 {
-            let (mut at, long) = (0, self.calls.len());
-            while at < self.calls.len() {
-                let rest = self.without(at, piece);
-                if fails(&rest) {
-                    self = rest;
-                } else {
-                    at += piece;
-                }
-            }
-            if piece > 1 || self.calls.len() == long {
-                piece /= 2;
-            }
-        }
-        self
+    /// The shortest run found that still fails.
+    pub fn shortest(self, fails: impl Fn(&Run) -> bool) -> Run {
+        let pages = self.pages;
+        let with = |calls| Run { pages, calls };
+        with(shortest(self.calls, |calls| fails(&with(calls.to_vec()))))
     }
 }
 
-/// Someone who counts nothing, for runs that are made again.
+/// The shortest list found by leaving items out, in ever smaller pieces, as long as it still fails.
+pub fn shortest<T: Clone>(mut all: Vec<T>, fails: impl Fn(&[T]) -> bool) -> Vec<T> {
+    let mut piece = all.len();
+    while piece > 0 {
+        let (mut at, long) = (0, all.len());
+        while at < all.len() {
+            let end = (at + piece).min(all.len());
+            let rest = [&all[..at], &all[end..]].concat();
+            if fails(&rest) {
+                all = rest;
+            } else {
+                at += piece;
+            }
+        }
+        // Single items are tried again and again, until none can be spared.
+        if piece > 1 || all.len() == long {
+            piece /= 2;
+        }
+    }
+    all
+}
+
+/// The two sides that are compared.
 pub fn sides() -> (Proved, Second) {
     (Proved, Second::default())
 }

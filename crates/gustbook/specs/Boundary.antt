@@ -8,6 +8,8 @@ use Rattle.ground.specs.declared.boxes.Box.{Box}
 use Rattle.index.specs.Calls.{Left}
 use Rattle.index.specs.declared.Counted.{Counted}
 use Rattle.index.specs.declared.Counted.the-variants as tell
+use Rattle.lines.specs.Narrow.{asTyped}
+use Rattle.lines.specs.declared.reading.Typed.{Typed}
 use Rattle.pages.specs.declared.Small.{Small}
 use Rattle.rules.specs.Record.{Reply, Reply.Refused, Reply.Answered, Called}
 use Rattle.rules.specs.Recording.{Outcome, Outcome.Kept, Outcome.Cut, Outcome.Covered}
@@ -20,13 +22,16 @@ abbrev pub numbersOf : Small → List ℕ
 numbersOf s = s .root ∷ s .height ∷ s .accepted ∷ s .struck ∷ s .covered ∷ []
 
 -- A box is six numbers, as great as they are: east low, east high, north low, north high, day low, day high.
-abbrev pub boxOf : List ℕ → Box
-boxOf w =
+abbrev pub wideOf : List ℕ → Typed
+wideOf w =
     record {
       east = record { low = getD w 0 0; high = getD w 1 0 };
       north = record { low = getD w 2 0; high = getD w 3 0 };
       day = record { low = getD w 4 0; high = getD w 5 0 };
     }
+
+abbrev pub boxOf : List ℕ → Box
+boxOf w = asTyped (wideOf w)
 
 -- What clearing and loading leave: the number returned, the table, and the small record's five numbers.
 pub record LeftInNumbers : Type 0 where

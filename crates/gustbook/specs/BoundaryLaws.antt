@@ -15,7 +15,6 @@ use Rattle.ground.specs.Tests.{both, three}
 use Rattle.ground.specs.declared.boxes.Box.{Box}
 use Rattle.index.specs.Calls.{unchanged}
 use Rattle.lines.specs.Narrow.{greatest, narrow, narrowed, narrow-legal, narrow-passes, narrow-keeps}
-use Rattle.lines.specs.declared.reading.Typed.{Typed}
 use Rattle.pages.specs.Facts.{fitting}
 use Rattle.pages.specs.Layout.{pageWords, pageEntries, levelAt, tableFits, pagesOf}
 use Rattle.pages.specs.LayoutLaws.{spread, spread-take, level-in, pages-at, pages-length}
@@ -25,16 +24,7 @@ use Rattle.wellformed.specs.Parts.{parts}
 use Rattle.wellformed.specs.WellFormed.{page, rootStands, wellFormed}
 use Rattle.rules.specs.Record.{refused, refusal, recordInto}
 use Rattle.rules.specs.RecordLaws.{Accepted, not-refused, refused-law}
-use Rattle.gustbook.specs.Boundary.{smallOf, numbersOf, boxOf, leftInNumbers, recordLeaves}
-
--- Six numbers as the ends of a box 32 bits wide, which the code narrows to 16.
-abbrev pub wideOf : List ℕ → Typed
-wideOf w =
-    record {
-      east = record { low = getD w 0 0; high = getD w 1 0 };
-      north = record { low = getD w 2 0; high = getD w 3 0 };
-      day = record { low = getD w 4 0; high = getD w 5 0 };
-    }
+use Rattle.gustbook.specs.Boundary.{smallOf, numbersOf, wideOf, boxOf, LeftInNumbers, leftInNumbers, Told, Recorded, recordLeaves}
 
 -- The same question, narrowed or as handed in.
 pub same-question : (t : List ℕ) (s : Small) (w : List ℕ) → asked t s (narrowed (wideOf w)) ≡ asked t s (boxOf w)
@@ -81,6 +71,20 @@ pub record-unchanged : (t w six lent : List ℕ) (v : ℕ) → length w ≡ 5 �
 record-unchanged t w six lent v h d =
     ap (λ x. recordLeaves x lent) (refused-law t (smallOf w) (boxOf six) v d)
     ∙ ap (λ x. record { told = record { refusal = refusal t (smallOf w) (boxOf six) v; answer = lent }; table = t; small = x }) (five-numbers w h)
+
+-- Each promise settles all that a call returns and leaves: two results that it allows are equal. (Saving: `save-settled` of the index.)
+pub left-settled : (x a b : LeftInNumbers) → a ≡ x → b ≡ x → (a .refusal ≡ b .refusal) × (a .table ≡ b .table) × (a .small ≡ b .small)
+left-settled x a b e f =
+    let g = e ∙ sym f in
+    (ap (λ (y : LeftInNumbers). y .refusal) g, ap (λ (y : LeftInNumbers). y .table) g, ap (λ (y : LeftInNumbers). y .small) g)
+
+pub told-settled : (x a b : Told) → a ≡ x → b ≡ x → (a .refusal ≡ b .refusal) × (a .answer ≡ b .answer)
+told-settled x a b e f = let g = e ∙ sym f in (ap (λ (y : Told). y .refusal) g, ap (λ (y : Told). y .answer) g)
+
+pub record-settled : (x a b : Recorded) → a ≡ x → b ≡ x → (a .told ≡ b .told) × (a .table ≡ b .table) × (a .small ≡ b .small)
+record-settled x a b e f =
+    let g = e ∙ sym f in
+    (ap (λ (y : Recorded). y .told) g, ap (λ (y : Recorded). y .table) g, ap (λ (y : Recorded). y .small) g)
 
 -- What a root that stands is known by, in a table of 16-bit words.
 abbrev pub Words : List ℕ → Type 0

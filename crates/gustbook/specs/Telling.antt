@@ -20,8 +20,8 @@ use Rattle.recording.specs.declared.Outcome as code-outcome
 use Rattle.recording.specs.declared.Reply as code-reply
 use Rattle.recording.specs.declared.Reply.the-variants as code-say
 use Rattle.rules.specs.Record.{recordInto}
-use Rattle.gustbook.specs.Boundary.{smallOf, numbersOf, boxOf, leftInNumbers, Told, outcomeNumber, recordTold, recordLeaves, askTold, countTold}
-use Rattle.gustbook.specs.BoundaryLaws.{wideOf, same-question, same-record}
+use Rattle.gustbook.specs.Boundary.{smallOf, numbersOf, wideOf, boxOf, leftInNumbers, Told, outcomeNumber, recordTold, recordLeaves, askTold, countTold}
+use Rattle.gustbook.specs.BoundaryLaws.{same-question, same-record}
 
 -- the call as a whole
 pub left-told : (u w : List ℕ) (e : Ended) (l : Left) → leftOf u e ≡ l → w ≡ numbersOf (e .small) → record { refusal = e .refusal; table = u; small = w } ≡ leftInNumbers l

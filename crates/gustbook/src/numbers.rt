@@ -5,8 +5,7 @@ use lines::Typed;
 use pages::Small;
 ghost use mathlib.Core.Path.{_≡_};
 ghost use Rattle.lines.specs.Narrow.{narrowed};
-ghost use Rattle.gustbook.specs.Boundary.{smallOf, numbersOf};
-ghost use Rattle.gustbook.specs.BoundaryLaws.{wideOf};
+ghost use Rattle.gustbook.specs.Boundary.{smallOf, numbersOf, wideOf};
 
 pub fn small_of(numbers: &[u32; 5]) -> Small
     ensures { λ r. ⌜ r ≡ smallOf (now (numbers .entry)) ⌝ }
