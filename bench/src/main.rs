@@ -12,7 +12,7 @@ struct Both {
     ratio: f64,
 }
 
-const ROUNDS: usize = 21;
+const ROUNDS: usize = 31;
 const ROUND: Duration = Duration::from_millis(4);
 
 fn timed(work: impl FnOnce()) -> Duration {
@@ -71,8 +71,8 @@ impl Book {
         let each = |ns: f64| in_words(ns / per as f64);
         println!(
             "| {what} | {} | {} | {} | {} | {:.2} | {remark} |",
-            self.pages,
-            self.accepted.len(),
+            grouped(self.pages),
+            grouped(self.accepted.len()),
             each(both.ours),
             each(both.theirs),
             both.ratio
@@ -228,20 +228,34 @@ impl Book {
     }
 }
 
+/// A number below a million, its thousands apart.
+fn grouped(n: usize) -> String {
+    match n {
+        0..1_000 => n.to_string(),
+        _ => format!("{},{:03}", n / 1_000, n % 1_000),
+    }
+}
+
 fn in_words(ns: f64) -> String {
     match ns {
-        ns if ns < 10_000.0 => format!("{ns:.0} ns"),
+        ns if ns < 9_999.5 => format!("{} ns", grouped(ns.round() as usize)),
         ns if ns < 1e6 => format!("{:.1} µs", ns / 1e3),
         ns => format!("{:.2} ms", ns / 1e6),
     }
 }
 
-/// The strongest gust that touches a box, by a plain pass over everything that was accepted.
-fn strongest(held: &[([u16; 6], u16)], [e0, e1, n0, n1, d0, d1]: [u16; 6]) -> Option<u16> {
-    let touching = held.iter().filter(|([a0, a1, b0, b1, c0, c1], _)| {
-        (*a0 <= e1) & (e0 <= *a1) & (*b0 <= n1) & (n0 <= *b1) & (*c0 <= d1) & (d0 <= *c1)
-    });
-    touching.map(|(_, gust)| *gust).max()
+/// The strongest gust that touches a box and one more, 0 for nothing, by a plain pass over everything that was accepted.
+fn strongest(held: &[([u16; 6], u16)], [e0, e1, n0, n1, d0, d1]: [u16; 6]) -> u16 {
+    let mut best = 0;
+    for ([a0, a1, b0, b1, c0, c1], gust) in held {
+        let east = (*a0 <= e1) & (e0 <= *a1);
+        let north = (*b0 <= n1) & (n0 <= *b1);
+        let day = (*c0 <= d1) & (d0 <= *c1);
+        if *gust >= best && east & north & day {
+            best = gust + 1;
+        }
+    }
+    best
 }
 
 fn main() {
@@ -252,7 +266,8 @@ fn main() {
         // As many as fit, but for the room that the timed records need.
         let sizes = [100, 1_000, 10_000].into_iter().filter(|many| *many < fit);
         for many in sizes.chain([fit - 60]) {
-            eprintln!("timing a book of {pages} pages and {many} records");
+            let (p, r) = (grouped(pages), grouped(many));
+            eprintln!("timing a book of {p} pages and {r} records");
             let book = Book::new(pages, many);
             if many == 100 {
                 book.clearing();
