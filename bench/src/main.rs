@@ -184,9 +184,8 @@ impl Book {
     fn recording(&self, with_pass: bool) {
         let seed = &mut Seed::of(77);
         let many = 20;
-        let runs: Vec<Vec<Record>> = (0..16)
-            .map(|_| (0..many).map(|_| SPARSE.record(seed)).collect())
-            .collect();
+        let a_run = |_| (0..many).map(|_| SPARSE.record(seed)).collect();
+        let runs: Vec<Vec<Record>> = (0..16).map(a_run).collect();
         let (mut ours, mut theirs) = (self.table.clone(), self.table.clone());
         let (mut next, mut other) = (runs.iter().cycle(), runs.iter().cycle());
         let both = beside(
@@ -194,38 +193,44 @@ impl Book {
                 ours.copy_from_slice(&self.table);
                 let (mut small, run) = (self.small, next.next().expect("they go round"));
                 timed(|| {
-                    for (place, gust) in run {
-                        let mut answer = [0; 2];
-                        let refused = match with_pass {
-                            true => gustbook::record(&mut ours, &mut small, place, *gust).is_err(),
-                            // SAFETY: the book is well-formed, and every record leaves it so.
-                            false => unsafe {
-                                record_sound(&mut ours, &mut small, place, *gust, &mut answer) != 0
-                            },
-                        };
-                        assert!(!refused, "there is room");
-                        black_box(answer);
-                    }
+                    run.iter()
+                        .for_each(|new| our_record(&mut ours, &mut small, new, with_pass))
                 })
             },
             || {
                 theirs.copy_from_slice(&self.table);
                 let (mut small, run) = (self.record, other.next().expect("they go round"));
                 timed(|| {
-                    for (place, gust) in run {
-                        let place = (*place).into();
-                        let done = match with_pass {
-                            true => second::record(&mut theirs, &mut small, place, *gust),
-                            false => second::record_sound(&mut theirs, &mut small, place, *gust),
-                        };
-                        let _ = black_box(done.expect("there is room"));
-                    }
+                    run.iter()
+                        .for_each(|new| their_record(&mut theirs, &mut small, new, with_pass))
                 })
             },
         );
         let name = ["record, the book known to be sound", "record"][usize::from(with_pass)];
         self.row(name, many, &both, "");
     }
+}
+
+#[inline(always)]
+fn our_record(table: &mut [u16], small: &mut [u32; 5], (place, gust): &Record, with_pass: bool) {
+    let mut answer = [0; 2];
+    let accepted = match with_pass {
+        true => gustbook::record(table, small, place, *gust).is_ok(),
+        // SAFETY: the book is well-formed, and every record leaves it so.
+        false => unsafe { record_sound(table, small, place, *gust, &mut answer) == 0 },
+    };
+    assert!(accepted, "there is room");
+    black_box(answer);
+}
+
+#[inline(always)]
+fn their_record(table: &mut [u16], small: &mut SmallRecord, new: &Record, with_pass: bool) {
+    let (place, gust) = (new.0.into(), new.1);
+    let done = match with_pass {
+        true => second::record(table, small, place, gust),
+        false => second::record_sound(table, small, place, gust),
+    };
+    let _ = black_box(done.expect("there is room"));
 }
 
 /// A number below a million, its thousands apart.

@@ -206,6 +206,11 @@ impl<'a> Chooser<'a> {
             0 => Call::Bytes(seed.pick(&[bytes - 1, bytes + 1, bytes + 340, 22, 0, 362])),
             // Anywhere, or in the trailer.
             1 => Call::Byte(seed.below(bytes as u32) as usize, seed.below(256) as u8),
+            2 if seed.one_in(4) => {
+                // All of it, or all but the trailer.
+                let end = seed.pick(&[bytes, bytes - 22]);
+                Call::ImageNoise(u64::from(seed.below(u32::MAX)), end)
+            }
             2 | 3 => {
                 let (at, byte) = (bytes - 1 - seed.below(22) as usize, seed.below(4) as u8);
                 Call::Byte(at, byte)

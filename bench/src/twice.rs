@@ -4,6 +4,7 @@
 use crate::{noise, Seed};
 use gustbook::raw;
 use second::{Refusal, SmallRecord, Tally, Verdict};
+use std::fmt;
 
 /// All memory that is lent to a book's calls.
 #[derive(Clone, PartialEq, Eq)]
@@ -52,8 +53,9 @@ pub enum Call {
     Bytes(usize),
     /// Two pages change places.
     Exchange(usize, usize),
-    /// Table and small record are filled from this seed.
+    /// Table and small record, or the image up to a byte, are filled from this seed.
     Noise(u64),
+    ImageNoise(u64, usize),
 }
 
 impl Call {
@@ -84,6 +86,11 @@ impl Call {
                 }
             }
             Call::Noise(seed) => noise(&mut lent.table, &mut lent.small, &mut Seed(seed)),
+            Call::ImageNoise(seed, end) => {
+                let mut seed = Seed(seed | 1);
+                let bytes = lent.image.iter_mut().take(end);
+                bytes.for_each(|byte| *byte = seed.below(256) as u8);
+            }
             _ => {}
         }
     }
@@ -100,10 +107,17 @@ fn put<T>(all: &mut [T], at: usize, new: T) {
 const UNTOLD: u32 = 0xdead_beef;
 
 /// The number that a call returns, and the numbers lent for its answer afterwards.
-#[derive(Clone, Copy, Debug, PartialEq, Eq)]
+#[derive(Clone, Copy, PartialEq, Eq)]
 pub struct Said {
     pub number: u32,
     pub answer: [u32; 4],
+}
+
+impl fmt::Debug for Said {
+    fn fmt(&self, f: &mut fmt::Formatter) -> fmt::Result {
+        let told = self.answer.iter().filter(|number| **number != UNTOLD);
+        write!(f, "{} {:?}", self.number, told.collect::<Vec<_>>())
+    }
 }
 
 impl Said {
@@ -328,11 +342,16 @@ impl Run {
         calls.find_map(|(at, call)| twice.call(call).err().map(|what| (at, what)))
     }
 
-    /// The shortest run found that still fails.
+    /// The shortest run found that still fails, on a smaller table if one will do.
     pub fn shortest(self, fails: impl Fn(&Run) -> bool) -> Run {
+        let on = |pages, calls| Run { pages, calls };
         let pages = self.pages;
-        let with = |calls| Run { pages, calls };
-        with(shortest(self.calls, |calls| fails(&with(calls.to_vec()))))
+        let calls = shortest(self.calls, |calls| fails(&on(pages, calls.to_vec())));
+        let smaller = [1, 3, 5, 10, 20, 50, 180]
+            .into_iter()
+            .filter(|p| *p < pages);
+        let mut runs = smaller.map(|pages| on(pages, calls.clone()));
+        runs.find(&fails).unwrap_or_else(|| on(pages, calls))
     }
 }
 

@@ -6,6 +6,7 @@ use bench::{Seed, Spread, DENSE, SPARSE};
 use second::{Event, Tally};
 use std::collections::BTreeMap;
 use std::sync::atomic::{AtomicUsize, Ordering};
+use std::sync::Mutex;
 use std::time::Instant;
 
 /// Each style with its number of runs.
@@ -197,7 +198,11 @@ fn run(style: &Style, number: u64) -> Seen {
     Seen { rules, ..seen }
 }
 
+/// One failure is enough: others wait here for the end.
+static FAILING: Mutex<()> = Mutex::new(());
+
 fn fail(style: &Style, number: u64, run: Run, what: String) -> ! {
+    let _first = FAILING.lock();
     eprintln!(
         "{}, seed {number}, call {}: {what}",
         style.name,

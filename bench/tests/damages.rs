@@ -25,79 +25,77 @@ fn at(page: usize, word: usize) -> usize {
     page * PAGE_WORDS + word
 }
 
-/// The damages, each to a copy of a good book of three levels or more.
-fn damages(good: &Lent) -> Vec<(&'static str, Lent)> {
+type Damage = (&'static str, Lent);
+
+/// A copy of a book with other words from a place on.
+fn words(good: &Lent, at: usize, words: &[u16]) -> Lent {
+    let mut lent = good.clone();
+    lent.table[at..at + words.len()].copy_from_slice(words);
+    lent
+}
+
+/// Damage to pages, each to a copy of a good book of three levels or more.
+fn damaged_pages(good: &Lent) -> Vec<Damage> {
     let (table, root) = (&good.table, good.small[ROOT] as usize);
-    let leaf = find(table, |p, page| {
-        p != root && page[LEVEL] == 1 && page[COUNT] < 8
-    });
-    let index = find(table, |p, page| p != root && page[LEVEL] == 2);
-    let free = find(table, |_, page| page[LEVEL] == 0);
+    let leaf = find(table, |p, x| p != root && x[LEVEL] == 1 && x[COUNT] < 8);
+    let index = find(table, |p, x| p != root && x[LEVEL] == 2);
+    let free = find(table, |_, x| x[LEVEL] == 0);
     let child = at(root, ENTRIES + CHILD);
-    let words = |at: usize, words: &[u16]| {
-        let mut lent = good.clone();
-        lent.table[at..at + words.len()].copy_from_slice(words);
-        lent
-    };
-    let numbers = |changes: &[(usize, u32)]| {
+    let summary = at(index, ENTRIES + GUST);
+    let put = |at, new: &[u16]| words(good, at, new);
+    let blank = [0; PAGE_WORDS];
+    let rest = PAGE_WORDS - ENTRIES - 21;
+    let alone = put(at(root, ENTRIES + 21), &blank[..rest]);
+    let stray = &table[at(leaf, 0)..][..PAGE_WORDS];
+    vec![
+        ("a child outside the table", put(child, &[60_000])),
+        ("two parents", put(child, &[table[child + 21]])),
+        ("a cycle", put(child, &[root as u16])),
+        ("a stray page", put(at(free, 0), stray)),
+        ("a free page with a word set", put(at(free, 100), &[1])),
+        ("an unused word set", put(at(leaf, PAGE_WORDS - 1), &[1])),
+        ("a summary off by one", put(summary, &[table[summary] + 1])),
+        ("a child not one level lower", put(at(index, LEVEL), &[3])),
+        (
+            "an index root of one entry",
+            words(&alone, at(root, COUNT), &[1]),
+        ),
+        (
+            "an empty page below the root",
+            put(at(leaf, COUNT), &blank[COUNT..]),
+        ),
+        ("a count of 9", put(at(leaf, COUNT), &[9])),
+        (
+            "a gust above the limit",
+            put(at(leaf, ENTRIES + GUST), &[1_201]),
+        ),
+    ]
+}
+
+/// Damage to the small record.
+fn damaged_numbers(good: &Lent) -> Vec<Damage> {
+    let small = good.small;
+    let put = |changes: &[(usize, u32)]| {
         let mut lent = good.clone();
         changes
             .iter()
             .for_each(|(k, number)| lent.small[*k] = *number);
         lent
     };
-    let blank = [0; PAGE_WORDS];
-    let (entry, rest) = (ENTRIES + 21, PAGE_WORDS - ENTRIES - 21);
-    let mut one_entry = words(at(root, entry), &blank[..rest]);
-    one_entry.table[at(root, COUNT)] = 1;
-    let more = 1_000_001 - good.small[ACCEPTED];
-    let covered = good.small[COVERED] + more;
+    let covered = 1_000_001 - small[ACCEPTED] + small[COVERED];
     vec![
-        ("a child outside the table", words(child, &[60_000])),
-        ("two parents", words(child, &[table[child + 21]])),
-        ("a cycle", words(child, &[root as u16])),
+        ("height 0", put(&[(HEIGHT, 0)])),
         (
-            "a stray page",
-            words(at(free, 0), &table[at(leaf, 0)..][..PAGE_WORDS]),
+            "a height above 65,535",
+            put(&[(HEIGHT, small[HEIGHT] + 65_536)]),
         ),
-        ("a free page with a word set", words(at(free, 100), &[1])),
-        ("an unused word set", words(at(leaf, PAGE_WORDS - 1), &[1])),
+        ("a root outside the table", put(&[(ROOT, 120)])),
+        ("a root above 65,535", put(&[(ROOT, small[ROOT] + 65_536)])),
         (
-            "a summary off by one",
-            words(
-                at(index, ENTRIES + GUST),
-                &[table[at(index, ENTRIES + GUST)] + 1],
-            ),
+            "too many accepted",
+            put(&[(ACCEPTED, 1_000_001), (COVERED, covered)]),
         ),
-        ("a child not one level lower", words(at(index, LEVEL), &[3])),
-        ("an index root of one entry", one_entry),
-        (
-            "an empty page below the root",
-            words(at(leaf, COUNT), &blank[COUNT..]),
-        ),
-        ("a count of 9", words(at(leaf, COUNT), &[9])),
-        (
-            "a gust above the limit",
-            words(at(leaf, ENTRIES + GUST), &[1_201]),
-        ),
-        ("height 0", numbers(&[(HEIGHT, 0)])),
-        (
-            "a height of more than 16 bits",
-            numbers(&[(HEIGHT, good.small[HEIGHT] + 65_536)]),
-        ),
-        ("a root outside the table", numbers(&[(ROOT, 70_000)])),
-        (
-            "a root of more than 16 bits",
-            numbers(&[(ROOT, good.small[ROOT] + 65_536)]),
-        ),
-        (
-            "accepted above 1,000,000",
-            numbers(&[(ACCEPTED, 1_000_001), (COVERED, covered)]),
-        ),
-        (
-            "held, struck and covered not accepted",
-            numbers(&[(STRUCK, good.small[STRUCK] + 1)]),
-        ),
+        ("a wrong sum", put(&[(STRUCK, small[STRUCK] + 1)])),
     ]
 }
 
@@ -113,7 +111,7 @@ fn every_named_damage_is_found_and_answered_alike() {
         image,
     };
     assert!(small[HEIGHT] >= 3 && gustbook::count(&good.table, &small).is_ok());
-    for (name, lent) in damages(&good) {
+    for (name, lent) in [damaged_pages(&good), damaged_numbers(&good)].concat() {
         let (proved, second) = sides();
         let mut twice = Twice::new(proved, second, lent);
         let mut call = |call: Call| {
