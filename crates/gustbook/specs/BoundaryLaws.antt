@@ -1,14 +1,14 @@
 -- What holds at the boundary: a number that no word of a page holds is refused for what it is, and a refusal leaves all that was lent as it was.
 use Prim.Native.Nat.{ℕ, zero, suc, _*_, _≤_}
 use mathlib.Core.Bool.{Bool, true, false, _&&_}
-use mathlib.Core.List.{List, [], _∷_}
+use mathlib.Core.List.{List}
 use mathlib.Core.Path.{_≡_, refl, sym, ap, ap₂, _∙_}
 use native.Mathlib.Omega.{arith}
 use borrow.Author.Tests.{leb-true, ltb-true, eqb-true, eqb-false}
 use lib.Dec.{leb, ltb, eqb}
 use lib.ListN.{length, getD}
 use lib.Seq.{take-all}
-use Rattle.asking.specs.Asking.{Search, Search.refused as turned-away, asked, answered, mayOpen, searchOpened, searchPage, searchBook, leastRoot}
+use Rattle.asking.specs.Asking.{Search.refused as turned-away, asked, answered, mayOpen, searchOpened, searchPage, searchBook, leastRoot}
 use Rattle.asking.specs.declared.Asked.the-variants as say
 use Rattle.ground.specs.Boxes.{gustLimit, gustPasses, legal}
 use Rattle.ground.specs.Tests.{both, three}
@@ -23,7 +23,7 @@ use Rattle.pages.specs.declared.Small.{Small}
 use Rattle.wellformed.specs.Parts.{parts}
 use Rattle.wellformed.specs.WellFormed.{page, rootStands, wellFormed}
 use Rattle.rules.specs.Record.{refused, refusal, recordInto}
-use Rattle.rules.specs.RecordLaws.{Accepted, not-refused, refused-law}
+use Rattle.rules.specs.RecordLaws.{not-refused, refused-law}
 use Rattle.gustbook.specs.Boundary.{smallOf, numbersOf, wideOf, boxOf, LeftInNumbers, leftInNumbers, Told, Recorded, recordLeaves}
 
 -- The same question, narrowed or as handed in.

@@ -1,6 +1,5 @@
 -- `gustbook::gust_ask` meets its contract.
 use Rattle.gustbook.specs.Telling.{ask-told}
-use borrow.Author.Needs.{needs}
 use Rattle.gustbook.proofs.gust_ask.Statement.{statement}
 use Rattle.gustbook.proofs.gust_ask.Tie as tie
 

@@ -1,6 +1,5 @@
 -- `gustbook::gust_count` meets its contract.
 use Rattle.gustbook.specs.Telling.{count-told}
-use borrow.Author.Needs.{needs}
 use Rattle.gustbook.proofs.gust_count.Statement.{statement}
 use Rattle.gustbook.proofs.gust_count.Tie as tie
 
