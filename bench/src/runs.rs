@@ -43,6 +43,64 @@ fn wide(place: [u32; 6], gust: u32, seed: &mut Seed) -> Record {
     (ends, 900 + gust / 4)
 }
 
+/// What can befall lent memory between two calls.
+#[derive(Clone, Copy, PartialEq, Eq)]
+enum Accident {
+    ImageLength,
+    ImageByte,
+    TrailerByte,
+    ImageNoise,
+    TableLength,
+    TooManyPages,
+    Noise,
+    Exchange,
+    /// As if 1,000,000 records had been accepted.
+    Spent,
+    Number,
+    Word,
+}
+
+use Accident::*;
+
+/// All of them, the likelier ones more than once.
+const ACCIDENTS: [Accident; 20] = [
+    ImageLength,
+    ImageByte,
+    TrailerByte,
+    TrailerByte,
+    ImageNoise,
+    TableLength,
+    TooManyPages,
+    Noise,
+    Exchange,
+    Spent,
+    Number,
+    Number,
+    Word,
+    Word,
+    Word,
+    Word,
+    Word,
+    Word,
+    Word,
+    Word,
+];
+
+impl Accident {
+    fn is_to_image(self) -> bool {
+        matches!(self, ImageLength | ImageByte | TrailerByte | ImageNoise)
+    }
+
+    fn is_to_length(self) -> bool {
+        matches!(self, TableLength | TooManyPages)
+    }
+}
+
+/// The latest records, many of which are still held.
+fn recent(records: &[Record]) -> &[Record] {
+    &records[records.len().saturating_sub(100)..]
+}
+
 /// Chooses the calls of a run.
 pub struct Chooser<'a> {
     style: &'a Style,
@@ -52,8 +110,6 @@ pub struct Chooser<'a> {
     full: bool,
 }
 
-/// The kind of accident that spends a book.
-const SPENT: u32 = 8;
 const WHOLE: [u32; 6] = [0, 4_095, 0, 4_095, 0, 58_439];
 
 impl<'a> Chooser<'a> {
@@ -125,7 +181,7 @@ impl<'a> Chooser<'a> {
         let seed = &mut self.seed;
         let (mut place, mut gust) = self.style.spread.record(seed);
         if !self.earlier.is_empty() && seed.one_in(2) {
-            let (old, v) = seed.pick(&self.earlier);
+            let (old, v) = seed.pick(recent(&self.earlier));
             place = related(old, seed);
             gust = seed.pick(&[v, v.saturating_sub(1), (v + 1).min(1_200), gust]);
         }
@@ -145,7 +201,7 @@ impl<'a> Chooser<'a> {
         let seed = &mut self.seed;
         let place = match seed.below(3) {
             0 if !self.earlier.is_empty() => {
-                let (old, _) = seed.pick(&self.earlier);
+                let (old, _) = seed.pick(recent(&self.earlier));
                 related(old, seed)
             }
             1 => self.style.spread.place(seed),
@@ -165,69 +221,67 @@ impl<'a> Chooser<'a> {
         place
     }
 
-    /// Saves the book, spoils it, makes every call on it, and loads what was saved.
+    /// Saves the book, spoils it or its image, makes every call on it, and loads what was saved.
     fn accident(&mut self, lent: &Lent) {
         self.waiting.push_back(Call::Save);
-        let many = 1 + self.seed.below(3) * self.seed.below(3);
-        let kind = self.seed.below(20);
-        for _ in 0..many {
+        let kind = self.seed.pick(&ACCIDENTS);
+        for _ in 0..1 + self.seed.below(3) * self.seed.below(3) {
             self.spoil(kind, lent);
         }
-        let book_spoilt = !matches!(kind, 0..4);
-        for _ in 0..8 * u32::from(book_spoilt) {
+        if !kind.is_to_image() {
+            self.every_call(kind);
+        }
+        let pages = lent.table.len() / PAGE_WORDS;
+        if kind.is_to_length() {
+            self.waiting.push_back(Call::Words(pages * PAGE_WORDS));
+        }
+        self.waiting.push_back(Call::Load);
+        if kind.is_to_image() {
+            let bytes = gustbook::image_bytes(pages);
+            self.waiting.extend([Call::Bytes(bytes), Call::Load]);
+        }
+    }
+
+    /// Calls of every kind, mostly questions, which alone are answered in a damaged book.
+    fn every_call(&mut self, kind: Accident) {
+        for _ in 0..8 {
             let (place, gust) = self.record();
             let question = self.asked();
             let call = match self.seed.below(12) {
                 0 => Call::Count,
                 // A spent book must not be what is loaded again.
-                1 if kind != SPENT => Call::Save,
+                1 if kind != Spent => Call::Save,
                 2 | 3 => Call::Record(place, gust),
                 4 if self.seed.one_in(8) => Call::Clear,
                 _ => Call::Ask(question),
             };
             self.waiting.push_back(call);
         }
-        let pages = lent.table.len() / PAGE_WORDS;
-        if kind == 4 || kind == 5 {
-            self.waiting.push_back(Call::Words(pages * PAGE_WORDS));
-        }
-        self.waiting.push_back(Call::Load);
-        if kind < 4 {
-            self.waiting
-                .push_back(Call::Bytes(gustbook::image_bytes(pages)));
-            self.waiting.push_back(Call::Load);
-        }
     }
 
-    fn spoil(&mut self, kind: u32, lent: &Lent) {
+    fn spoil(&mut self, kind: Accident, lent: &Lent) {
         let seed = &mut self.seed;
         let (words, bytes) = (lent.table.len(), lent.image.len());
+        let pages = (words / PAGE_WORDS) as u32;
         let call = match kind {
-            0 => Call::Bytes(seed.pick(&[bytes - 1, bytes + 1, bytes + 340, 22, 0, 362])),
-            // Anywhere, or in the trailer.
-            1 => Call::Byte(seed.below(bytes as u32) as usize, seed.below(256) as u8),
-            2 if seed.one_in(4) => {
+            ImageLength => Call::Bytes(seed.pick(&[bytes - 1, bytes + 1, bytes + 340, 22, 0, 362])),
+            ImageByte => Call::Byte(seed.below(bytes as u32) as usize, seed.below(256) as u8),
+            TrailerByte => Call::Byte(bytes - 1 - seed.below(22) as usize, seed.below(4) as u8),
+            ImageNoise => {
                 // All of it, or all but the trailer.
                 let end = seed.pick(&[bytes, bytes - 22]);
                 Call::ImageNoise(u64::from(seed.below(u32::MAX)), end)
             }
-            2 | 3 => {
-                let (at, byte) = (bytes - 1 - seed.below(22) as usize, seed.below(4) as u8);
-                Call::Byte(at, byte)
-            }
-            4 => Call::Words(seed.pick(&[words - 1, words + 1, words + PAGE_WORDS, 0])),
-            5 => Call::Words(words + PAGE_WORDS * 4_096),
-            6 => Call::Noise(u64::from(seed.below(u32::MAX))),
-            7 => {
-                let pages = (words / PAGE_WORDS) as u32;
-                Call::Exchange(seed.below(pages) as usize, seed.below(pages) as usize)
-            }
-            SPENT => return self.spend(lent),
-            9 | 10 => {
+            TableLength => Call::Words(seed.pick(&[words - 1, words + 1, words + PAGE_WORDS, 0])),
+            TooManyPages => Call::Words(words + PAGE_WORDS * 4_096),
+            Noise => Call::Noise(u64::from(seed.below(u32::MAX))),
+            Exchange => Call::Exchange(seed.below(pages) as usize, seed.below(pages) as usize),
+            Spent => return self.spend(lent),
+            Number => {
                 let (at, step) = (seed.below(5) as usize, seed.pick(&[1, u32::MAX, 65_536, 9]));
                 Call::Number(at, lent.small[at].wrapping_add(step))
             }
-            _ => self.another_word(lent),
+            Word => self.another_word(lent),
         };
         self.waiting.push_back(call);
     }
@@ -235,22 +289,14 @@ impl<'a> Chooser<'a> {
     /// A word in a page that is in use, most often changed to one nearby.
     fn another_word(&mut self, lent: &Lent) -> Call {
         let seed = &mut self.seed;
-        let used = lent
-            .table
-            .chunks(PAGE_WORDS)
-            .filter(|page| page[0] != 0)
-            .count();
-        let at = match seed.below(4) {
-            0 => seed.below(lent.table.len() as u32) as usize,
-            _ => seed.below((used.max(1) * PAGE_WORDS) as u32) as usize % lent.table.len(),
-        };
+        let used = lent.table.chunks(PAGE_WORDS).filter(|page| page[0] != 0);
+        let pages = [used.count().max(1), lent.table.len() / PAGE_WORDS];
+        let most = seed.pick(&pages) as u32;
+        let page = seed.below(most) as usize;
         // The words that say most stand at the start of a page.
-        let at = if seed.one_in(3) {
-            at - at % PAGE_WORDS + at % 11
-        } else {
-            at
-        };
-        let at = at.min(lent.table.len() - 1);
+        let most = seed.pick(&[11, 23, PAGE_WORDS as u32]);
+        let word = seed.below(most) as usize;
+        let at = page * PAGE_WORDS + word;
         let step = seed.pick(&[1, u16::MAX, 7, 60_000]);
         Call::Word(at, lent.table[at].wrapping_add(step))
     }
