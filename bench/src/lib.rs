@@ -1,19 +1,44 @@
-//! The proved functions beside the second program: shared by the comparison (tests/) and the timing (main.rs).
-pub mod proved;
+//! The proved library beside the second program: shared by the comparisons (tests/) and the timing (main.rs).
+pub mod runs;
+pub mod twice;
 
-use second::{clear, record_sound, GustBox, Recorded, Refusal, SmallRecord, PAGE_WORDS};
+use second::{clear, record_sound, SmallRecord, LIMITS, PAGE_WORDS};
 
 /// A small generator of numbers, so that a run can be repeated from its seed.
 pub struct Seed(pub u64);
 
 impl Seed {
+    /// The seed of one run of many.
+    pub fn of(run: u64) -> Self {
+        Seed((run + 1).wrapping_mul(0x9e37_79b9_7f4a_7c15) | 1)
+    }
+
     pub fn below(&mut self, n: u32) -> u32 {
         self.0 ^= self.0 << 13;
         self.0 ^= self.0 >> 7;
         self.0 ^= self.0 << 17;
         (self.0 >> 33) as u32 % n
     }
+
+    pub fn one_in(&mut self, n: u32) -> bool {
+        self.below(n) == 0
+    }
+
+    pub fn pick<T: Copy>(&mut self, from: &[T]) -> T {
+        from[self.below(from.len() as u32) as usize]
+    }
 }
+
+/// Fills a table and a small record with anything: mostly small numbers, which look like levels, counts and pages.
+pub fn noise(table: &mut [u16], small: &mut [u32; 5], seed: &mut Seed) {
+    seed.0 |= 1;
+    let most = seed.pick(&[3, 9, 1_300, 65_536]);
+    table.fill_with(|| (seed.below(most) * seed.below(2)) as u16);
+    small.fill_with(|| seed.below(most.min(20)));
+}
+
+/// A box and a gust.
+pub type Record = ([u32; 6], u32);
 
 /// How the records of a book lie: the ground and days that they are spread over, and their greatest lengths.
 pub struct Spread {
@@ -36,65 +61,76 @@ pub const DENSE: Spread = Spread {
     weeks: 12,
 };
 
-/// A record somewhere in the spread.
-pub fn a_record(spread: &Spread, seed: &mut Seed) -> ([u16; 6], u16) {
-    let (e, n, d) = (
-        seed.below(spread.ground),
-        seed.below(spread.ground),
-        seed.below(spread.days),
-    );
-    let (w, h, l) = (
-        seed.below(spread.side),
-        seed.below(spread.side),
-        seed.below(spread.weeks),
-    );
-    let ends = [e, e + w, n, n + h, d, d + l];
-    (ends.map(|x| x as u16), seed.below(1_201) as u16)
-}
-
-/// The second program's walk, for a record in the proved functions' words.
-pub fn record_in_second(
-    table: &mut [u16],
-    small: &mut SmallRecord,
-    (place, gust): ([u16; 6], u16),
-) -> Result<Recorded, Refusal> {
-    let place = GustBox::from(place.map(u32::from));
-    record_sound(table, small, place, u32::from(gust))
-}
-
-/// A book of so many pages with up to so many records.
-pub fn book(
-    pages: usize,
-    most: usize,
-    spread: &Spread,
-    seed: &mut Seed,
-) -> (Vec<u16>, SmallRecord) {
-    let mut table = vec![0; pages * PAGE_WORDS];
-    let mut small = SmallRecord::EMPTY;
-    clear(&mut table, &mut small).expect("a table of whole pages is cleared");
-    for _ in 0..most {
-        let next = a_record(spread, seed);
-        if record_in_second(&mut table, &mut small, next).is_err() {
-            break;
-        }
+impl Spread {
+    /// A box somewhere in the spread.
+    pub fn place(&self, seed: &mut Seed) -> [u32; 6] {
+        let mut range = |from, long| {
+            let low = seed.below(from);
+            [low, low + seed.below(long)]
+        };
+        let (e, n) = (range(self.ground, self.side), range(self.ground, self.side));
+        let d = range(self.days, self.weeks);
+        [e[0], e[1], n[0], n[1], d[0], d[1]]
     }
-    (table, small)
+
+    pub fn record(&self, seed: &mut Seed) -> Record {
+        (self.place(seed), seed.below(1_201))
+    }
+}
+
+/// A box that has to do with an earlier one: the same, moved along one axis, inside it, or around it.
+pub fn related(old: [u32; 6], seed: &mut Seed) -> [u32; 6] {
+    let mut ends = old;
+    let axis = seed.below(3) as usize;
+    let (low, high) = (ends[2 * axis], ends[2 * axis + 1]);
+    let part = 1 + seed.below(high - low + 1);
+    let (low, high) = match seed.below(5) {
+        0 => (low, high),
+        1 => (low + part, high + part),
+        2 => (low.saturating_sub(part), high.saturating_sub(part)),
+        3 => ((low + part).min(high), high),
+        _ => (low.saturating_sub(part), high + part),
+    };
+    let high = high.min(LIMITS[axis]);
+    (ends[2 * axis], ends[2 * axis + 1]) = (low.min(high), high);
+    ends
 }
 
 /// A question of about so many parts in a million of the whole volume, somewhere in it.
-pub fn question(parts: u32, seed: &mut Seed) -> [u16; 6] {
+pub fn question(parts: u32, seed: &mut Seed) -> [u32; 6] {
     let side = (f64::from(parts) / 1e6).cbrt();
     let mut range = |limit: u32| {
         let long = ((f64::from(limit) * side) as u32).clamp(1, limit);
         let low = seed.below(limit - long + 1);
-        [low as u16, (low + long - 1) as u16]
+        [low, low + long - 1]
     };
     let (e, n, d) = (range(4_096), range(4_096), range(58_440));
     [e[0], e[1], n[0], n[1], d[0], d[1]]
 }
 
+/// A book of so many pages with up to so many records, and the records that it accepted.
+pub fn book(
+    pages: usize,
+    most: usize,
+    spread: &Spread,
+    seed: &mut Seed,
+) -> (Vec<u16>, SmallRecord, Vec<Record>) {
+    let mut table = vec![0; pages * PAGE_WORDS];
+    let mut small = SmallRecord::EMPTY;
+    clear(&mut table, &mut small).expect("a table of whole pages is cleared");
+    let mut accepted = Vec::new();
+    while accepted.len() < most {
+        let (place, gust) = spread.record(seed);
+        if record_sound(&mut table, &mut small, place.into(), gust).is_err() {
+            break;
+        }
+        accepted.push((place, gust));
+    }
+    (table, small, accepted)
+}
+
 /// A spoilt table whose every page has one entry, which names the next page, one level lower, and asks for it to be opened.
-pub fn chain(pages: usize) -> (Vec<u16>, SmallRecord) {
+pub fn chain(pages: usize) -> (Vec<u16>, [u32; 5]) {
     let mut table = vec![0; pages * PAGE_WORDS];
     for p in 0..pages {
         let page = &mut table[p * PAGE_WORDS..][..PAGE_WORDS];
@@ -106,12 +142,7 @@ pub fn chain(pages: usize) -> (Vec<u16>, SmallRecord) {
         page[10] = (p + 1) as u16;
         page[11..17].copy_from_slice(&[9, 9, 9, 9, 9, 9]);
     }
-    let small = SmallRecord {
-        root: 0,
-        height: pages as u32,
-        ..SmallRecord::EMPTY
-    };
-    (table, small)
+    (table, [0, pages as u32, 0, 0, 0])
 }
 
 /// An index entry for a page below which only one record lies.
@@ -134,19 +165,14 @@ fn put_chain(table: &mut [u16], top: usize, levels: usize, place: [u16; 6], gust
     }
 }
 
-/// The tallest book of 4,096 pages that still takes a record: below the root two chains, each of one record.
-pub fn tallest(left: [u16; 6], right: [u16; 6], gust: u16) -> (Vec<u16>, SmallRecord) {
-    const BELOW: usize = 1_364;
+/// A well-formed book of 4,096 pages: below the root two chains of so many pages, each of one record.
+pub fn two_chains(below: usize, places: [[u16; 6]; 2], gust: u16) -> (Vec<u16>, [u32; 5]) {
     let mut table = vec![0; 4_096 * PAGE_WORDS];
-    put_chain(&mut table, 1, BELOW, left, gust);
-    put_chain(&mut table, 1 + BELOW, BELOW, right, gust);
-    (table[0], table[1]) = (BELOW as u16 + 1, 2);
-    table[2..23].copy_from_slice(&lone_entry(left, gust, 1));
-    table[23..44].copy_from_slice(&lone_entry(right, gust, 1 + BELOW as u16));
-    let small = SmallRecord {
-        height: BELOW as u32 + 1,
-        accepted: 2,
-        ..SmallRecord::EMPTY
-    };
-    (table, small)
+    (table[0], table[1]) = (below as u16 + 1, 2);
+    for (k, place) in places.into_iter().enumerate() {
+        let top = 1 + k * below;
+        put_chain(&mut table, top, below, place, gust);
+        table[2 + 21 * k..][..21].copy_from_slice(&lone_entry(place, gust, top as u16));
+    }
+    (table, [0, below as u32 + 1, 2, 0, 0])
 }

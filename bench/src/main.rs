@@ -1,216 +1,289 @@
-//! Times the proved functions beside the second program's, in one run, as ratios.
-use bench::{a_record, book, proved, question, record_in_second, Seed, Spread, DENSE, SPARSE};
-use second::{ask, record, well_formed, GustBox, SmallRecord, PAGE_WORDS};
+//! Times the proved library beside the second program, in one process and in turn. Prints one table.
+use bench::twice::{five, record_sound};
+use bench::{book, question, Record, Seed, SPARSE};
+use second::{GustBox, SmallRecord};
 use std::hint::black_box;
-use std::time::Instant;
+use std::time::{Duration, Instant};
 
-/// Nanoseconds for one call, the best of several rounds of both in turn, so that both meet the same machine.
-fn beside(turns: usize, mut ours: impl FnMut(), mut theirs: impl FnMut()) -> (f64, f64) {
-    let mut best = (f64::MAX, f64::MAX);
-    for _ in 0..15 {
-        let start = Instant::now();
-        (0..turns).for_each(|_| ours());
-        best.0 = best.0.min(start.elapsed().as_nanos() as f64 / turns as f64);
-        let start = Instant::now();
-        (0..turns).for_each(|_| theirs());
-        best.1 = best.1.min(start.elapsed().as_nanos() as f64 / turns as f64);
-    }
-    best
+/// Nanoseconds of a turn of each side, and how they compare: medians over the rounds.
+struct Both {
+    ours: f64,
+    theirs: f64,
+    ratio: f64,
 }
 
-fn row(name: &str, pages: usize, per: usize, unit: &str, (ours, theirs): (f64, f64)) {
-    let (a, b) = (ours / per as f64, theirs / per as f64);
-    println!(
-        "{name:<34} {pages:>6} {a:>10.3} {b:>10.3} {:>8.2}   {unit}",
-        a / b
-    );
+const ROUNDS: usize = 31;
+const ROUND: Duration = Duration::from_millis(4);
+
+fn timed(work: impl FnOnce()) -> Duration {
+    let start = Instant::now();
+    work();
+    start.elapsed()
 }
 
-type Book = (Vec<u16>, SmallRecord);
-type Record = ([u16; 6], u16);
+fn median(mut all: Vec<f64>) -> f64 {
+    all.sort_by(f64::total_cmp);
+    all[all.len() / 2]
+}
 
-/// The same for records: several runs of them, each from the same book, so that no processor learns them by heart.
-fn beside_in(
-    start: &Book,
-    runs: &[Vec<Record>],
-    ours: impl Fn(&mut Book, Record),
-    theirs: impl Fn(&mut Book, Record),
-) -> (f64, f64) {
-    let mut work = start.clone();
-    let mut round = |one: &dyn Fn(&mut Book, Record)| {
-        let mut spent = 0;
-        for records in runs {
-            work.0.copy_from_slice(&start.0);
-            work.1 = start.1;
-            let clock = Instant::now();
-            records.iter().for_each(|new| one(&mut work, *new));
-            spent += clock.elapsed().as_nanos();
-        }
-        spent as f64 / runs.len() as f64
+/// Rounds of both in turn, so that both meet the same machine.
+fn beside(mut ours: impl FnMut() -> Duration, mut theirs: impl FnMut() -> Duration) -> Both {
+    let once = ours().max(theirs()).max(Duration::from_nanos(1));
+    let turns = (ROUND.as_nanos() / once.as_nanos()).clamp(1, 20_000) as u32;
+    let round = |side: &mut dyn FnMut() -> Duration| {
+        let spent: Duration = (0..turns).map(|_| side()).sum();
+        spent.as_nanos() as f64 / f64::from(turns)
     };
-    let mut best = (f64::MAX, f64::MAX);
-    for _ in 0..15 {
-        best.0 = best.0.min(round(&ours));
-        best.1 = best.1.min(round(&theirs));
+    let pairs: Vec<(f64, f64)> = (0..ROUNDS)
+        .map(|_| (round(&mut ours), round(&mut theirs)))
+        .collect();
+    Both {
+        ours: median(pairs.iter().map(|p| p.0).collect()),
+        theirs: median(pairs.iter().map(|p| p.1).collect()),
+        ratio: median(pairs.iter().map(|p| p.0 / p.1).collect()),
     }
-    best
 }
 
-/// A book with about so many free pages left.
-fn filled_to(pages: usize, free: usize, spread: &Spread, seed: &mut Seed) -> Book {
-    let (mut table, mut small) = book(pages, 0, spread, seed);
-    let left = |table: &[u16]| {
-        let levels = table.iter().step_by(PAGE_WORDS);
-        levels.filter(|level| **level == 0).count()
-    };
-    while left(&table) > free {
-        for _ in 0..5 {
-            record_in_second(&mut table, &mut small, a_record(spread, seed))
-                .expect("there is room");
+/// A book in both programs' words, with the records that it accepted.
+struct Book {
+    pages: usize,
+    table: Vec<u16>,
+    small: [u32; 5],
+    record: SmallRecord,
+    accepted: Vec<Record>,
+}
+
+impl Book {
+    fn new(pages: usize, most: usize) -> Self {
+        let (table, record, accepted) = book(pages, most, &SPARSE, &mut Seed::of(9));
+        let small = five(&record);
+        Book {
+            pages,
+            table,
+            small,
+            record,
+            accepted,
         }
     }
-    (table, small)
-}
 
-/// Recording without the pass over the table (the walk), and with it, in books half full and nearly full.
-fn recording_rows(pages: usize, name: &str, spread: &Spread, seed: &mut Seed) {
-    let many = 40;
-    for (part, free) in [("half", pages / 2), ("nearly", 40)] {
-        let start = filled_to(pages, free, spread, seed);
-        let a_run = |_| (0..many).map(|_| a_record(spread, seed)).collect();
-        let runs: Vec<Vec<Record>> = (0..20).map(a_run).collect();
-        let walk = beside_in(
-            &start,
-            &runs,
-            |(t, s), (q, v)| {
-                // SAFETY: the book is well-formed, and every record leaves it so.
-                let _ = black_box(unsafe { proved::record_sound(t, s, q, v) }.expect("there is room"));
-            },
-            |(t, s), new| {
-                let _ = black_box(record_in_second(t, s, new).expect("there is room"));
+    /// A row of the table; times are of `per` calls.
+    fn row(&self, what: &str, per: usize, both: &Both, remark: &str) {
+        let each = |ns: f64| in_words(ns / per as f64);
+        println!(
+            "| {what} | {} | {} | {} | {} | {:.2} | {remark} |",
+            grouped(self.pages),
+            grouped(self.accepted.len()),
+            each(both.ours),
+            each(both.theirs),
+            both.ratio
+        );
+    }
+
+    fn clearing(&self) {
+        let (mut ours, mut small) = (self.table.clone(), self.small);
+        let (mut theirs, mut record) = (self.table.clone(), self.record);
+        let both = beside(
+            || timed(|| gustbook::clear(black_box(&mut ours), &mut small).expect("it fits")),
+            || timed(|| second::clear(black_box(&mut theirs), &mut record).expect("it fits")),
+        );
+        self.row("clear", 1, &both, "");
+    }
+
+    fn asking(&self, parts: u32, size: &str) {
+        let seed = &mut Seed::of(u64::from(parts));
+        // Enough of them that no processor learns them by heart.
+        let places: Vec<[u32; 6]> = (0..4_000).map(|_| question(parts, seed)).collect();
+        let boxes: Vec<GustBox> = places.iter().map(|place| (*place).into()).collect();
+        let (table, small) = (&self.table, &self.small);
+        let opened: u32 = places
+            .iter()
+            .map(|place| {
+                gustbook::ask(table, small, place)
+                    .expect("a good book")
+                    .pages
+            })
+            .sum();
+        let ours = || {
+            for place in &places {
+                let _ = black_box(gustbook::ask(black_box(table), small, place));
+            }
+        };
+        let theirs = || {
+            for place in &boxes {
+                let _ = black_box(second::ask(black_box(table), &self.record, *place));
+            }
+        };
+        let both = beside(|| timed(ours), || timed(theirs));
+        let opened = f64::from(opened) / places.len() as f64;
+        let scan = self.plain_scan(&places[..50]);
+        let remark = format!("{opened:.1} pages opened; a plain scan {scan}");
+        self.row(
+            &format!("ask, {size} of the volume"),
+            places.len(),
+            &both,
+            &remark,
+        );
+    }
+
+    /// The time of a question put to a plain array of the accepted records.
+    fn plain_scan(&self, places: &[[u32; 6]]) -> String {
+        let narrow = |place: &[u32; 6]| place.map(|end| end as u16);
+        let accepted = self.accepted.iter();
+        let held: Vec<_> = accepted
+            .map(|(place, gust)| (narrow(place), *gust as u16))
+            .collect();
+        let scan = || {
+            for place in places {
+                black_box(strongest(black_box(&held), narrow(place)));
+            }
+        };
+        let both = beside(|| timed(scan), || timed(scan));
+        in_words(both.ours / places.len() as f64)
+    }
+
+    fn counting(&self) {
+        let (table, small) = (&self.table, &self.small);
+        let both = beside(
+            || timed(|| assert!(gustbook::count(black_box(table), small).is_ok())),
+            || timed(|| assert!(second::count(black_box(table), &self.record).is_ok())),
+        );
+        let word = both.ours / table.len() as f64;
+        let remark = format!("the well-formed check, {word:.2} ns a word");
+        self.row("count", 1, &both, &remark);
+    }
+
+    fn saving_and_loading(&self) {
+        let mut image = vec![0; gustbook::image_bytes(self.pages)];
+        let mut other = image.clone();
+        let (table, small) = (&self.table, &self.small);
+        let rate = |both: &Both| {
+            let bytes = gustbook::image_bytes(self.pages) as f64;
+            format!("{:.1} GB/s", bytes / both.ours)
+        };
+        let both = beside(
+            || timed(|| gustbook::save(black_box(table), small, &mut image).expect("a good book")),
+            || {
+                timed(|| {
+                    second::save(black_box(table), &self.record, &mut other).expect("a good book")
+                })
             },
         );
-        let what = format!("walk, {name}, {part} full");
-        row(&what, pages, many, "ns a record", walk);
-        let call = beside_in(
-            &start,
-            &runs[..400 / pages + 1],
-            |(t, s), (q, v)| {
-                let _ = black_box(proved::record(t, s, q, v).expect("there is room"));
+        assert!(image == other);
+        self.row("save", 1, &both, &rate(&both));
+        let (mut ours, mut five) = (table.clone(), *small);
+        let (mut theirs, mut record) = (table.clone(), self.record);
+        let both = beside(
+            || timed(|| gustbook::load(black_box(&image), &mut ours, &mut five).expect("good")),
+            || timed(|| second::load(black_box(&image), &mut theirs, &mut record).expect("good")),
+        );
+        assert!(ours == theirs && five == *small);
+        self.row("load", 1, &both, &rate(&both));
+    }
+
+    /// Several runs of records, each from the same book, so that no processor learns them by heart.
+    fn recording(&self, with_pass: bool) {
+        let seed = &mut Seed::of(77);
+        let many = 20;
+        let a_run = |_| (0..many).map(|_| SPARSE.record(seed)).collect();
+        let runs: Vec<Vec<Record>> = (0..16).map(a_run).collect();
+        let (mut ours, mut theirs) = (self.table.clone(), self.table.clone());
+        let (mut next, mut other) = (runs.iter().cycle(), runs.iter().cycle());
+        let both = beside(
+            || {
+                ours.copy_from_slice(&self.table);
+                let (mut small, run) = (self.small, next.next().expect("they go round"));
+                timed(|| {
+                    run.iter()
+                        .for_each(|new| our_record(&mut ours, &mut small, new, with_pass))
+                })
             },
-            |(t, s), (q, v)| {
-                let place = GustBox::from(q.map(u32::from));
-                let _ = black_box(record(t, s, place, u32::from(v)).expect("there is room"));
+            || {
+                theirs.copy_from_slice(&self.table);
+                let (mut small, run) = (self.record, other.next().expect("they go round"));
+                timed(|| {
+                    run.iter()
+                        .for_each(|new| their_record(&mut theirs, &mut small, new, with_pass))
+                })
             },
         );
-        let what = format!("record, {name}, {part} full");
-        row(&what, pages, many, "ns a record", call);
+        let name = ["record, the book known to be sound", "record"][usize::from(with_pass)];
+        self.row(name, many, &both, "");
     }
 }
 
-/// The plain loop that images are held against.
-#[inline(never)]
-fn copy_bytes(from: &[u8], to: &mut [u8]) {
-    for (x, y) in from.iter().zip(to) {
-        *y = *x;
+#[inline(always)]
+fn our_record(table: &mut [u16], small: &mut [u32; 5], (place, gust): &Record, with_pass: bool) {
+    let mut answer = [0; 2];
+    let accepted = match with_pass {
+        true => gustbook::record(table, small, place, *gust).is_ok(),
+        // SAFETY: the book is well-formed, and every record leaves it so.
+        false => unsafe { record_sound(table, small, place, *gust, &mut answer) == 0 },
+    };
+    assert!(accepted, "there is room");
+    black_box(answer);
+}
+
+#[inline(always)]
+fn their_record(table: &mut [u16], small: &mut SmallRecord, new: &Record, with_pass: bool) {
+    let (place, gust) = (new.0.into(), new.1);
+    let done = match with_pass {
+        true => second::record(table, small, place, gust),
+        false => second::record_sound(table, small, place, gust),
+    };
+    let _ = black_box(done.expect("there is room"));
+}
+
+/// A number below a million, its thousands apart.
+fn grouped(n: usize) -> String {
+    match n {
+        0..1_000 => n.to_string(),
+        _ => format!("{},{:03}", n / 1_000, n % 1_000),
     }
+}
+
+fn in_words(ns: f64) -> String {
+    match ns {
+        ns if ns < 9_999.5 => format!("{} ns", grouped(ns.round() as usize)),
+        ns if ns < 1e6 => format!("{:.1} µs", ns / 1e3),
+        ns => format!("{:.2} ms", ns / 1e6),
+    }
+}
+
+/// The strongest gust that touches a box and one more, 0 for nothing, by a plain pass over everything that was accepted.
+fn strongest(held: &[([u16; 6], u16)], [e0, e1, n0, n1, d0, d1]: [u16; 6]) -> u16 {
+    let mut best = 0;
+    for ([a0, a1, b0, b1, c0, c1], gust) in held {
+        let east = (*a0 <= e1) & (e0 <= *a1);
+        let north = (*b0 <= n1) & (n0 <= *b1);
+        let day = (*c0 <= d1) & (d0 <= *c1);
+        if *gust >= best && east & north & day {
+            best = gust + 1;
+        }
+    }
+    best
 }
 
 fn main() {
-    let mut seed = Seed(0x9e37_79b9_7f4a_7c15);
-    println!(
-        "{:<34} {:>6} {:>10} {:>10} {:>8}",
-        "", "pages", "proved", "other", "ratio"
-    );
-    for pages in [64, 180, 1024, 4096] {
-        let (table, small) = book(pages, usize::MAX, &SPARSE, &mut seed);
-        assert_eq!(
-            proved::check(&table, &small),
-            well_formed(&table, &small).map(|s| s.held)
-        );
-        let turns = 400_000 / pages;
-        let both = beside(
-            turns,
-            || assert!(black_box(proved::check(black_box(&table), &small)).is_some()),
-            || assert!(black_box(well_formed(black_box(&table), &small)).is_some()),
-        );
-        row(
-            "well-formed, second program",
-            pages,
-            table.len(),
-            "ns a word",
-            both,
-        );
-
-        let mut image = vec![0u8; 2 * table.len() + 22];
-        let other = vec![7u8; 2 * table.len() + 22];
-        let mut copy = other.clone();
-        let both = beside(
-            turns,
-            || {
-                assert!(proved::encode(
-                    black_box(&table),
-                    &small,
-                    black_box(&mut image)
-                ))
-            },
-            || copy_bytes(black_box(&other), black_box(&mut copy)),
-        );
-        row(
-            "encode, byte by byte copy",
-            pages,
-            image.len(),
-            "ns a byte",
-            both,
-        );
-
-        let mut back = vec![0u16; table.len()];
-        let both = beside(
-            turns,
-            || assert!(proved::decode(black_box(&image), black_box(&mut back))),
-            || copy_bytes(black_box(&other), black_box(&mut copy)),
-        );
-        assert_eq!(back, table);
-        row(
-            "decode, byte by byte copy",
-            pages,
-            image.len(),
-            "ns a byte",
-            both,
-        );
-    }
-    for records in [100, 1_000, 10_000] {
-        let (table, small) = book(4_096, records, &SPARSE, &mut seed);
-        for (parts, name) in [(1, "0.0001%"), (10_000, "1%"), (500_000, "50%")] {
-            let questions: Vec<[u16; 6]> = (0..200).map(|_| question(parts, &mut seed)).collect();
-            let places: Vec<GustBox> = questions
-                .iter()
-                .map(|q| GustBox::from(q.map(u32::from)))
-                .collect();
-            let both = beside(
-                20,
-                || {
-                    questions
-                        .iter()
-                        .for_each(|q| assert!(proved::ask(black_box(&table), &small, *q).is_ok()))
-                },
-                || {
-                    places
-                        .iter()
-                        .for_each(|p| assert!(ask(black_box(&table), &small, *p).is_ok()))
-                },
-            );
-            row(
-                &format!("ask, {records} records, {name}"),
-                4_096,
-                questions.len(),
-                "ns a question",
-                both,
-            );
-        }
-    }
+    println!("| call | pages | records | proved | second program | ratio | |");
+    println!("|---|---|---|---|---|---|---|");
     for pages in [180, 4_096] {
-        recording_rows(pages, "sparse", &SPARSE, &mut seed);
-        recording_rows(pages, "dense", &DENSE, &mut seed);
+        let fit = Book::new(pages, usize::MAX).accepted.len();
+        // As many as fit, but for the room that the timed records need.
+        let sizes = [100, 1_000, 10_000].into_iter().filter(|many| *many < fit);
+        for many in sizes.chain([fit - 60]) {
+            let (p, r) = (grouped(pages), grouped(many));
+            eprintln!("timing a book of {p} pages and {r} records");
+            let book = Book::new(pages, many);
+            if many == 100 {
+                book.clearing();
+            }
+            book.recording(true);
+            book.recording(false);
+            book.asking(1, "0.0001%");
+            book.asking(10_000, "1%");
+            book.asking(500_000, "50%");
+            book.counting();
+            book.saving_and_loading();
+        }
     }
 }

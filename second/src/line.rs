@@ -4,7 +4,7 @@ use std::io::{self, Write};
 
 use crate::calendar::day_number;
 use crate::page::PAGE_WORDS;
-use crate::{ask, clear, count, record, GustBox, Refusal, SmallRecord, Verdict};
+use crate::{ask, clear, count, record_sound, GustBox, Refusal, SmallRecord, Verdict};
 
 /// Pages of the program's table.
 pub const COUNTER_PAGES: usize = 180;
@@ -99,7 +99,8 @@ impl Counter {
     }
 
     fn add(&mut self, ground: GustBox, gust: u32, out: &mut impl Write) -> io::Result<()> {
-        match record(&mut self.table, &mut self.book, ground, gust) {
+        // Nobody else writes to this table, so the book is sound.
+        match record_sound(&mut self.table, &mut self.book, ground, gust) {
             Ok(recorded) => {
                 let word = match recorded.verdict {
                     Verdict::Kept => "kept",

@@ -260,6 +260,7 @@ impl<'a, N: Note> Walk<'a, N> {
             Event::SplitIndex
         };
         self.note.note(event);
+        self.note.split_at(level);
         second
     }
 

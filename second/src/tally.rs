@@ -46,6 +46,10 @@ impl Event {
 /// Someone who is told of events; `()` does not listen and costs nothing.
 pub trait Note {
     fn note(&mut self, event: Event);
+
+    /// A page of this level was split.
+    #[inline(always)]
+    fn split_at(&mut self, _level: u16) {}
 }
 
 impl Note for () {
@@ -53,18 +57,40 @@ impl Note for () {
     fn note(&mut self, _: Event) {}
 }
 
-/// How often each event happened.
+/// Levels whose splits are counted apart; the last one stands for all above it too.
+const LEVELS: usize = 8;
+
+/// How often each event happened, and how often a page of each level was split.
 #[derive(Clone, Copy, Debug, Default, PartialEq, Eq)]
-pub struct Tally([u64; Event::ALL.len()]);
+pub struct Tally {
+    events: [u64; Event::ALL.len()],
+    splits: [u64; LEVELS],
+}
 
 impl Tally {
     pub fn times(&self, event: Event) -> u64 {
-        self.0[event as usize]
+        self.events[event as usize]
+    }
+
+    /// Splits of pages of a level, 1 for leaves.
+    pub fn splits(&self, level: usize) -> u64 {
+        self.splits[level - 1]
+    }
+
+    /// Adds what another has counted.
+    pub fn add(&mut self, other: &Tally) {
+        let all = self.events.iter_mut().chain(&mut self.splits);
+        let more = other.events.iter().chain(&other.splits);
+        all.zip(more).for_each(|(sum, times)| *sum += times);
     }
 }
 
 impl Note for Tally {
     fn note(&mut self, event: Event) {
-        self.0[event as usize] += 1;
+        self.events[event as usize] += 1;
+    }
+
+    fn split_at(&mut self, level: u16) {
+        self.splits[usize::from(level).min(LEVELS) - 1] += 1;
     }
 }

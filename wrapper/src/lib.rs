@@ -1,0 +1,204 @@
+//! The gust book's calls, behind safe Rust. `include/gustbook.h` says what each refuses and leaves.
+
+/// Words of a page, and the most pages of a book.
+pub const PAGE_WORDS: usize = 170;
+pub const MOST_PAGES: usize = 4_096;
+
+/// The bytes of the image of a book of so many pages.
+pub const fn image_bytes(pages: usize) -> usize {
+    2 * PAGE_WORDS * pages + 22
+}
+
+/// The library's own functions: slices are pointer and length, all else is numbers that the caller lends.
+pub mod raw {
+    extern "C" {
+        pub fn gust_clear(table: *mut u16, words: usize, small: *mut [u32; 5]) -> u32;
+        pub fn gust_record(
+            table: *mut u16,
+            words: usize,
+            small: *mut [u32; 5],
+            place: *const [u32; 6],
+            gust: u32,
+            answer: *mut [u32; 2],
+        ) -> u32;
+        pub fn gust_ask(
+            table: *const u16,
+            words: usize,
+            small: *const [u32; 5],
+            place: *const [u32; 6],
+            answer: *mut [u32; 3],
+        ) -> u32;
+        pub fn gust_count(
+            table: *const u16,
+            words: usize,
+            small: *const [u32; 5],
+            answer: *mut [u32; 4],
+        ) -> u32;
+        pub fn gust_save(
+            table: *const u16,
+            words: usize,
+            small: *const [u32; 5],
+            image: *mut u8,
+            bytes: usize,
+        ) -> u32;
+        pub fn gust_load(
+            image: *const u8,
+            bytes: usize,
+            table: *mut u16,
+            words: usize,
+            small: *mut [u32; 5],
+        ) -> u32;
+    }
+}
+
+/// The small record: root, height, accepted, struck, covered.
+pub type Small = [u32; 5];
+/// A box: east low, east high, north low, north high, day low, day high.
+pub type Place = [u32; 6];
+
+/// The number of a refusal, 1 to 8.
+#[derive(Clone, Copy, Debug, PartialEq, Eq)]
+pub struct Refusal(pub u32);
+
+#[derive(Clone, Copy, Debug, PartialEq, Eq)]
+pub enum Outcome {
+    Kept,
+    /// Kept after a cut.
+    Cut,
+    Covered,
+}
+
+#[derive(Clone, Copy, Debug, PartialEq, Eq)]
+pub struct Recorded {
+    pub outcome: Outcome,
+    pub struck: u32,
+}
+
+/// The strongest gust, `None` for nothing, and the pages opened.
+#[derive(Clone, Copy, Debug, PartialEq, Eq)]
+pub struct Asked {
+    pub gust: Option<u32>,
+    pub pages: u32,
+}
+
+#[derive(Clone, Copy, Debug, PartialEq, Eq)]
+pub struct Counted {
+    pub accepted: u32,
+    pub held: u32,
+    pub struck: u32,
+    pub covered: u32,
+}
+
+fn accepted(number: u32) -> Result<(), Refusal> {
+    match number {
+        0 => Ok(()),
+        n => Err(Refusal(n)),
+    }
+}
+
+// SAFETY, for every call below: a slice is passed whole, with its own length; arrays are borrowed for the call; what is
+// lent to be changed is borrowed alone. The callee is proved to touch nothing else, whatever the contents.
+
+pub fn clear(table: &mut [u16], small: &mut Small) -> Result<(), Refusal> {
+    accepted(unsafe { raw::gust_clear(table.as_mut_ptr(), table.len(), small) })
+}
+
+pub fn record(
+    table: &mut [u16],
+    small: &mut Small,
+    place: &Place,
+    gust: u32,
+) -> Result<Recorded, Refusal> {
+    let mut answer = [0; 2];
+    let (words, len) = (table.as_mut_ptr(), table.len());
+    accepted(unsafe { raw::gust_record(words, len, small, place, gust, &mut answer) })?;
+    Ok(recorded(answer))
+}
+
+/// The answer to a record, by its two numbers.
+pub fn recorded([outcome, struck]: [u32; 2]) -> Recorded {
+    let outcome = match outcome {
+        0 => Outcome::Kept,
+        1 => Outcome::Cut,
+        _ => Outcome::Covered,
+    };
+    Recorded { outcome, struck }
+}
+
+pub fn ask(table: &[u16], small: &Small, place: &Place) -> Result<Asked, Refusal> {
+    let mut answer = [0; 3];
+    let (words, len) = (table.as_ptr(), table.len());
+    accepted(unsafe { raw::gust_ask(words, len, small, place, &mut answer) })?;
+    let [any, gust, pages] = answer;
+    let gust = (any == 1).then_some(gust);
+    Ok(Asked { gust, pages })
+}
+
+pub fn count(table: &[u16], small: &Small) -> Result<Counted, Refusal> {
+    let mut answer = [0; 4];
+    accepted(unsafe { raw::gust_count(table.as_ptr(), table.len(), small, &mut answer) })?;
+    let [accepted, held, struck, covered] = answer;
+    Ok(Counted {
+        accepted,
+        held,
+        struck,
+        covered,
+    })
+}
+
+pub fn save(table: &[u16], small: &Small, image: &mut [u8]) -> Result<(), Refusal> {
+    let (words, len) = (table.as_ptr(), table.len());
+    accepted(unsafe { raw::gust_save(words, len, small, image.as_mut_ptr(), image.len()) })
+}
+
+pub fn load(image: &[u8], table: &mut [u16], small: &mut Small) -> Result<(), Refusal> {
+    let (words, len) = (table.as_mut_ptr(), table.len());
+    accepted(unsafe { raw::gust_load(image.as_ptr(), image.len(), words, len, small) })
+}
+
+#[cfg(test)]
+mod tests {
+    use super::*;
+
+    /// Document 01's worked example, but for its lines.
+    #[test]
+    fn a_day_at_the_counter() {
+        let mut table = vec![7; 180 * PAGE_WORDS];
+        let mut small = [9; 5];
+        assert_eq!(clear(&mut table, &mut small), Ok(()));
+        let mut add = |ends: Place, gust| record(&mut table, &mut small, &ends, gust);
+        let said = |outcome, struck| Ok(Recorded { outcome, struck });
+        let first = [10, 19, 10, 19, 7_305, 7_314];
+        assert_eq!(add(first, 250), said(Outcome::Kept, 0));
+        let wider = [10, 29, 10, 19, 7_305, 7_314];
+        assert_eq!(add(wider, 250), said(Outcome::Kept, 1));
+        let across = [15, 35, 10, 19, 7_305, 7_314];
+        assert_eq!(add(across, 250), said(Outcome::Cut, 0));
+        let inside = [12, 18, 12, 18, 7_306, 7_307];
+        assert_eq!(add(inside, 100), said(Outcome::Covered, 0));
+        assert_eq!(add([5, 4, 0, 0, 7_305, 7_305], 1), Err(Refusal(2)));
+        assert_eq!(add(first, 65_536), Err(Refusal(3)));
+        let nothing = Asked {
+            gust: None,
+            pages: 1,
+        };
+        assert_eq!(
+            ask(&table, &small, &[36, 40, 10, 19, 7_305, 7_314]),
+            Ok(nothing)
+        );
+        let counts = Counted {
+            accepted: 4,
+            held: 2,
+            struck: 1,
+            covered: 1,
+        };
+        assert_eq!(count(&table, &small), Ok(counts));
+        let mut image = vec![0; image_bytes(180)];
+        assert_eq!(save(&table, &small, &mut image), Ok(()));
+        let (mut copy, mut other) = (vec![0; table.len()], [0; 5]);
+        assert_eq!(load(&image, &mut copy, &mut other), Ok(()));
+        assert!(copy == table && other == small);
+        assert_eq!(load(&image[1..], &mut copy, &mut other), Err(Refusal(7)));
+        assert_eq!(count(&table, &[65_536, small[1], 4, 1, 1]), Err(Refusal(4)));
+    }
+}
