@@ -3,7 +3,7 @@ use Prim.Native.Nat.{ℕ, _+_}
 use mathlib.Core.Bool.{Bool, true, false}
 use mathlib.Core.List.{List, [], _∷_, _++_}
 use lib.Dec.{eqb}
-use lib.ListN.{length, take}
+use lib.ListN.{take}
 use Rattle.asking.specs.Asking.{asked}
 use Rattle.asking.specs.declared.Asked.{Asked}
 use Rattle.asking.specs.declared.Asked.the-variants as ask
@@ -12,7 +12,7 @@ use Rattle.index.specs.Run.{Call, Call.Record, Call.Ask, Call.Count, Book, afte
 use Rattle.index.specs.declared.Counted.{Counted}
 use Rattle.index.specs.declared.Counted.the-variants as count
 use Rattle.lines.specs.Lines.{parsed, longestLine, lineRefusal}
-use Rattle.lines.specs.Narrow.{asTyped}
+use Rattle.wide.specs.Wide.{asGiven}
 use Rattle.lines.specs.Printing.{printed}
 use Rattle.lines.specs.declared.printing.Answer.{Answer}
 use Rattle.lines.specs.declared.printing.Answer.the-variants as told
@@ -23,8 +23,8 @@ use Rattle.rules.specs.Recording.{Outcome, Outcome.Kept, Outcome.Cut, Outcome.C
 
 -- The call that a line is, with the numbers as they were typed. A line of none of the forms is no call.
 unfoldable pub callsOf : Line → List Call
-callsOf (typed.Add b v) = Record (asTyped b) v ∷ []
-callsOf (typed.Ask q) = Ask (asTyped q) ∷ []
+callsOf (typed.Add b v) = Record (asGiven b) v ∷ []
+callsOf (typed.Ask q) = Ask (asGiven q) ∷ []
 callsOf typed.Count = Count ∷ []
 callsOf typed.Refused = []
 
@@ -49,8 +49,8 @@ countSays (count.Counts accepted held struck covered) = told.Counts accepted hel
 
 -- The answer to a line on a book; a line of none of the forms is refused by 9.
 unfoldable pub answerTo : Line → Book → Answer
-answerTo (typed.Add b v) k = recordSays (recordInto (k .table) (k .small) (asTyped b) v .reply)
-answerTo (typed.Ask q) k = askSays (asked (k .table) (k .small) (asTyped q))
+answerTo (typed.Add b v) k = recordSays (recordInto (k .table) (k .small) (asGiven b) v .reply)
+answerTo (typed.Ask q) k = askSays (asked (k .table) (k .small) (asGiven q))
 answerTo typed.Count k = countSays (counted (k .table) (k .small))
 answerTo typed.Refused k = told.Refused lineRefusal
 

@@ -6,7 +6,7 @@ use mathlib.Core.Logic.{⊎-elim}
 use mathlib.Core.Path.{_≡_, refl, sym, ap, _∙_, subst}
 use native.Mathlib.Omega.{arith}
 use lib.Dec.{eqb}
-use lib.ListN.{length, take, length-take}
+use lib.ListN.{length, length-take}
 use lib.Seq.{take-all, take-take, take-append-le}
 use Rattle.ground.specs.Tests.{below-or-not}
 use Rattle.index.specs.Run.{Call, Book, after, held, Moment, turn, run, Good}

@@ -7,22 +7,19 @@ use native.Mathlib.Omega.{arith}
 use lib.Dec.{eqb}
 use lib.ListN.{length, take, drop, replicate, length-append, length-take, length-drop, length-replicate}
 use lib.Seq.{take-all, take-take, take-at, drop-at, drop-drop, drop-append-add, take-append-add, length-take-le, take-length}
-use Rattle.bytes.specs.Bytes.{slice, indexAfter, indexOf}
+use Rattle.bytes.specs.Bytes.{indexAfter, indexOf}
 use borrow.Rule.Slice.PartMut.{putMid}
-use mathlib.Core.Path.{subst}
 use mathlib.Core.Logic.{⊎-elim}
-use lib.ListN.{take-append-drop, drop-of-length-le}
+use lib.ListN.{drop-of-length-le}
 use Rattle.ground.specs.Tests.{below-or-not}
-use Rattle.lines.specs.LineLaws.{printed-most}
 use Rattle.counter.specs.declared.answering.Served.{Served}
 use Rattle.index.specs.Calls.{cleared}
 use Rattle.lines.specs.Lines.{parsed, longestLine}
 use Rattle.lines.specs.Printing.{printed, put, longestAnswer}
 use Rattle.pages.specs.Free.{emptySmall}
-use Rattle.pages.specs.declared.Small.{Small}
 use Rattle.wellformed.specs.WellFormed.{wellFormed}
-use Rattle.counter.specs.Counter.{answerTo, bookAfter, lineEnd, Counter, kept, ended, longer, byByte, fed, finishedBy, finished}
-use Rattle.counter.specs.CounterLaws.{parsed-kept, kept-on, line-sound}
+use Rattle.counter.specs.Counter.{answerTo, bookAfter, lineEnd, Counter, kept, ended, longer, byByte, fed}
+use Rattle.counter.specs.CounterLaws.{parsed-kept, kept-on}
 use Rattle.counter.specs.Steps.{bookOf, Serves}
 use Rattle.counter.specs.declared.State.{State}
 

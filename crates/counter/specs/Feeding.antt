@@ -3,7 +3,6 @@ use Prim.Native.Nat.{ℕ, suc, _+_, _-_, _*_, _≤_, _<_}
 use mathlib.Core.Bool.{Bool, true, false, cond}
 use mathlib.Core.List.{List, [], _∷_, _++_}
 use mathlib.Core.Path.{_≡_, refl, sym, ap, _∙_, subst}
-use native.Mathlib.Numerals.{add-one}
 use native.Mathlib.Omega.{arith}
 use lib.Dec.{eqb}
 use lib.ListN.{length, take, drop, length-append, length-take, length-drop, take-append-drop, drop-of-length-le}
@@ -21,7 +20,7 @@ use Rattle.pages.specs.Layout.{tableFits}
 use Rattle.pages.specs.declared.Small.{Small}
 use Rattle.rules.specs.EmptyBook.{empty-well-formed}
 use Rattle.wellformed.specs.WellFormed.{wellFormed}
-use Rattle.counter.specs.Counter.{answerTo, bookAfter, lineEnd, Counter, kept, ended, longer, byByte, fed, finishedBy, finished}
+use Rattle.counter.specs.Counter.{answerTo, lineEnd, Counter, kept, ended, longer, byByte, fed, finishedBy, finished}
 use Rattle.counter.specs.CounterLaws.{line-sound}
 use Rattle.counter.specs.FeedSteps.{zeros, lineBuffer, counterOf, IsLine, Keeps, Ready, MayEnd, printedOver, Shows, Opens, line-first, shown-line, printed-again, fed-no-end, fed-to-end}
 use Rattle.counter.specs.Steps.{bookOf}

@@ -1,7 +1,6 @@
 -- The counter program, to be read beside document 01's section of that name; and, last, what the code does at a line and at a chunk.
 pub mod Counter
 pub mod CounterLaws
-pub mod TypedCalls
 pub mod Steps
 pub mod FeedSteps
 pub mod Feeding

@@ -1,12 +1,12 @@
 -- What the code does at a line and at a chunk.
 use Prim.Native.Nat.{ℕ, _+_, _-_, _≤_}
-use mathlib.Core.Bool.{true, _&&_}
-use mathlib.Core.List.{List, [], _∷_, _++_}
-use mathlib.Core.Path.{_≡_, refl, sym, ap, _∙_}
+use mathlib.Core.Bool.{true}
+use mathlib.Core.List.{List}
+use mathlib.Core.Path.{_≡_, refl, ap, _∙_}
 use native.Mathlib.Omega.{arith}
 use borrow.Author.Tests.{eqb-true}
 use lib.Dec.{leb, eqb}
-use lib.ListN.{length, take, drop}
+use lib.ListN.{length}
 use Rattle.asking.specs.Asking.{asked}
 use Rattle.asking.specs.declared.Asked.{Asked}
 use Rattle.ground.specs.Tests.{both}
@@ -14,13 +14,13 @@ use Rattle.ground.specs.declared.boxes.Box.{Box}
 use Rattle.index.specs.Calls.{counted}
 use Rattle.index.specs.Run.{Book}
 use Rattle.lines.specs.LineLaws.{prints-at}
-use Rattle.lines.specs.Narrow.{narrow, narrowed, asTyped}
+use Rattle.wide.specs.Wide.{narrow, narrowed, asGiven}
 use Rattle.lines.specs.Printing.{printed, put, longestAnswer, Prints}
 use Rattle.lines.specs.declared.printing.Answer.{Answer}
 use Rattle.lines.specs.declared.printing.Answer.the-variants as told
 use Rattle.lines.specs.declared.reading.Line.{Line}
 use Rattle.lines.specs.declared.reading.Line.the-variants as typed
-use Rattle.lines.specs.declared.reading.Typed.{Typed}
+use Rattle.wide.specs.declared.WideBox.{WideBox}
 use Rattle.pages.specs.Layout.{pagesOf}
 use Rattle.pages.specs.declared.Small.{Small}
 use Rattle.recording.specs.CallSteps.{replyOf, calledOf}
@@ -29,7 +29,7 @@ use Rattle.rules.specs.Record.{recordInto}
 use Rattle.wellformed.specs.Parts.{parts}
 use Rattle.wellformed.specs.WellFormed.{heldRecords, mostAccepted, countsStand, wellFormed}
 use Rattle.counter.specs.Counter.{callsOf, recordSays, askSays, countSays, answerTo, afterAll, bookAfter}
-use Rattle.counter.specs.TypedCalls.{record-typed, ask-typed}
+use Rattle.index.specs.WideCalls.{record-wide, ask-wide}
 use Rattle.counter.specs.declared.answering.Told.{Told}
 use Rattle.counter.specs.declared.answering.Served.{Served}
 
@@ -63,16 +63,16 @@ count-sound t s w =
 
 module _ (t : List ℕ) (s : Small) where
   pub told-add :
-      (x : Typed) (v : ℕ) (b : Box) (w : ℕ) (u : List ℕ) (r : Called) (a : Answer) → b ≡ narrowed x → w ≡ narrow v → calledOf u r ≡ recordInto t s b w → a ≡ recordSays (replyOf (r .reply))
+      (x : WideBox) (v : ℕ) (b : Box) (w : ℕ) (u : List ℕ) (r : Called) (a : Answer) → b ≡ narrowed x → w ≡ narrow v → calledOf u r ≡ recordInto t s b w → a ≡ recordSays (replyOf (r .reply))
       → Tells t u s (typed.Add x v) (record { answer = a; small = r .small })
   unfolding answerTo afterAll callsOf
   told-add x v b w u r a e f h g =
-      let all : calledOf u r ≡ recordInto t s (asTyped x) v = h ∙ (λ i. recordInto t s (e i) (f i)) ∙ record-typed t s x v in
+      let all : calledOf u r ≡ recordInto t s (asGiven x) v = h ∙ (λ i. recordInto t s (e i) (f i)) ∙ record-wide t s x v in
       record { answer = g ∙ ap (λ y. recordSays (y .reply)) all; book = λ i. record { table = all i .table; small = all i .small } }
 
-  pub told-ask : (x : Typed) (b : Box) (q : Asked) (a : Answer) → b ≡ narrowed x → q ≡ asked t s b → a ≡ askSays q → Tells t t s (typed.Ask x) (record { answer = a; small = s })
+  pub told-ask : (x : WideBox) (b : Box) (q : Asked) (a : Answer) → b ≡ narrowed x → q ≡ asked t s b → a ≡ askSays q → Tells t t s (typed.Ask x) (record { answer = a; small = s })
   unfolding answerTo afterAll callsOf
-  told-ask x b q a e h g = record { answer = g ∙ ap askSays (h ∙ ap (asked t s) e ∙ ask-typed t s x); book = refl }
+  told-ask x b q a e h g = record { answer = g ∙ ap askSays (h ∙ ap (asked t s) e ∙ ask-wide t s x); book = refl }
 
   pub told-count : (a : Answer) → a ≡ countSays (counted t s) → Tells t t s typed.Count (record { answer = a; small = s })
   unfolding answerTo afterAll callsOf

@@ -2,17 +2,17 @@
 use asking::Asked;
 use lines::Answer;
 use lines::Line;
-use lines::Typed;
 use pages::Small;
 use recording::Outcome;
 use recording::Reply;
+use wide::WideBox;
 ghost use mathlib.Core.Bool.{true};
 ghost use mathlib.Core.Path.{_≡_};
 ghost use Prim.Native.Nat.{_+_, _≤_};
 ghost use lib.ListN.{length};
 ghost use Rattle.wellformed.specs.WellFormed.{wellFormed};
 ghost use Rattle.lines.specs.Lines.{parsed};
-ghost use Rattle.lines.specs.Narrow.{asTyped};
+ghost use Rattle.wide.specs.Wide.{asGiven};
 ghost use Rattle.lines.specs.Printing.{longestAnswer};
 ghost use Rattle.lines.specs.declared.reading.Line.the-variants.{Add};
 ghost use Rattle.recording.specs.CallSteps.{replyOf};
@@ -76,11 +76,11 @@ fn count_says(t: &[u16], s: Small) -> Answer
     }
 }
 
-fn add(t: &mut [u16], s: Small, typed: Typed, gust: u32) -> Told
+fn add(t: &mut [u16], s: Small, typed: WideBox, gust: u32) -> Told
     requires { ⌜ wellFormed (now t) s ≡ true ⌝ }
     ensures { λ r. ⌜ Tells (now (t .entry)) (now (t .exit)) s (Add typed gust) r ⌝ }
 {
-    let called = recording::record_sound(t, s, typed.narrow(), lines::narrow(gust));
+    let called = recording::record_sound(t, s, typed.narrow(), wide::narrow(gust));
     let reply = called.reply;
     let small = called.small;
     Told {

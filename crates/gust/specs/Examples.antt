@@ -1,5 +1,5 @@
 -- Document 01's transcript, input bytes to output bytes, on the program's own 180 pages, by computation.
-use Prim.Native.Nat.{ℕ, _*_}
+use Prim.Native.Nat.{ℕ}
 use mathlib.Core.Bool.{xor}
 use mathlib.Core.List.{List, [], flatMap}
 use mathlib.Core.Path.{_≡_, refl}
@@ -23,7 +23,7 @@ use Rattle.rules.specs.Strike.{select, strikeAll, strikeOne, strike}
 use Rattle.rules.specs.Scan.{candidate, scanEntry, scan}
 use Rattle.rules.specs.Recording.{growth, goesBefore, leastGrown, choose, splitPage, settle, exactAt, comeBack, append, goDown, goOn, atPage, walkDown, fromRoot, collapse, recorded}
 use Rattle.rules.specs.Record.{refusal, recordInto}
-use Rattle.counter.specs.Counter.{callsOf, outcomeSays, recordSays, askSays, countSays, answerTo, afterAll, ended, longer, byByte, fed, finishedBy, finished, Counter}
+use Rattle.counter.specs.Counter.{callsOf, outcomeSays, recordSays, askSays, countSays, answerTo, afterAll, ended, longer, byByte, fed, finishedBy, finished}
 
 -- the program's table of 180 empty pages, cleared
 abbrev pub opened : Book

@@ -5,7 +5,7 @@ use mathlib.Core.List.{List}
 use mathlib.Core.Path.{_≡_, sym, subst}
 use native.Mathlib.Omega.{arith}
 use lib.ListN.{length}
-use Rattle.counter.specs.Counter.{fed, finished}
+use Rattle.counter.specs.Counter.{fed}
 use Rattle.counter.specs.FeedSteps.{zeros, counterOf, Ready, Shows, Opens}
 use Rattle.counter.specs.Feeding.{shown-out, opened-ready, fed-ready}
 use Rattle.counter.specs.declared.State.{State}

@@ -8,8 +8,8 @@ use Rattle.ground.specs.declared.boxes.Box.{Box}
 use Rattle.index.specs.Calls.{Left}
 use Rattle.index.specs.declared.Counted.{Counted}
 use Rattle.index.specs.declared.Counted.the-variants as tell
-use Rattle.lines.specs.Narrow.{asTyped}
-use Rattle.lines.specs.declared.reading.Typed.{Typed}
+use Rattle.wide.specs.Wide.{asGiven}
+use Rattle.wide.specs.declared.WideBox.{WideBox}
 use Rattle.pages.specs.declared.Small.{Small}
 use Rattle.rules.specs.Record.{Reply, Reply.Refused, Reply.Answered, Called}
 use Rattle.rules.specs.Recording.{Outcome, Outcome.Kept, Outcome.Cut, Outcome.Covered}
@@ -22,7 +22,7 @@ abbrev pub numbersOf : Small → List ℕ
 numbersOf s = s .root ∷ s .height ∷ s .accepted ∷ s .struck ∷ s .covered ∷ []
 
 -- A box is six numbers, as great as they are: east low, east high, north low, north high, day low, day high.
-abbrev pub wideOf : List ℕ → Typed
+abbrev pub wideOf : List ℕ → WideBox
 wideOf w =
     record {
       east = record { low = getD w 0 0; high = getD w 1 0 };
@@ -31,7 +31,7 @@ wideOf w =
     }
 
 abbrev pub boxOf : List ℕ → Box
-boxOf w = asTyped (wideOf w)
+boxOf w = asGiven (wideOf w)
 
 -- What clearing and loading leave: the number returned, the table, and the small record's five numbers.
 pub record LeftInNumbers : Type 0 where

@@ -2,19 +2,19 @@
 use Prim.Native.Nat.{ℕ, zero, suc, _*_, _≤_}
 use mathlib.Core.Bool.{Bool, true, false, _&&_}
 use mathlib.Core.List.{List}
-use mathlib.Core.Path.{_≡_, refl, sym, ap, ap₂, _∙_}
+use mathlib.Core.Path.{_≡_, refl, sym, ap, _∙_}
 use native.Mathlib.Omega.{arith}
-use borrow.Author.Tests.{leb-true, ltb-true, eqb-true, eqb-false}
+use borrow.Author.Tests.{ltb-true, eqb-true}
 use lib.Dec.{leb, ltb, eqb}
 use lib.ListN.{length, getD}
 use lib.Seq.{take-all}
 use Rattle.asking.specs.Asking.{Search.refused as turned-away, asked, answered, mayOpen, searchOpened, searchPage, searchBook, leastRoot}
 use Rattle.asking.specs.declared.Asked.the-variants as say
-use Rattle.ground.specs.Boxes.{gustLimit, gustPasses, legal}
+use Rattle.ground.specs.Boxes.{legal}
 use Rattle.ground.specs.Tests.{both, three}
 use Rattle.ground.specs.declared.boxes.Box.{Box}
 use Rattle.index.specs.Calls.{unchanged}
-use Rattle.lines.specs.Narrow.{greatest, narrow, narrowed, narrow-legal, narrow-passes, narrow-keeps}
+use Rattle.wide.specs.Wide.{greatest}
 use Rattle.pages.specs.Facts.{fitting}
 use Rattle.pages.specs.Layout.{pageWords, pageEntries, levelAt, tableFits, pagesOf}
 use Rattle.pages.specs.LayoutLaws.{spread, spread-take, level-in, pages-at, pages-length}
@@ -23,40 +23,8 @@ use Rattle.pages.specs.declared.Small.{Small}
 use Rattle.wellformed.specs.Parts.{parts}
 use Rattle.wellformed.specs.WellFormed.{page, rootStands, wellFormed}
 use Rattle.rules.specs.Record.{refused, refusal, recordInto}
-use Rattle.rules.specs.RecordLaws.{not-refused, refused-law}
-use Rattle.gustbook.specs.Boundary.{smallOf, numbersOf, wideOf, boxOf, LeftInNumbers, leftInNumbers, Told, Recorded, recordLeaves}
-
--- The same question, narrowed or as handed in.
-pub same-question : (t : List ℕ) (s : Small) (w : List ℕ) → asked t s (narrowed (wideOf w)) ≡ asked t s (boxOf w)
-unfolding asked
-same-question t s w = by-legal (legal (boxOf w)) refl
-  where
-    by-legal : (b : Bool) → legal (boxOf w) ≡ b → asked t s (narrowed (wideOf w)) ≡ asked t s (boxOf w)
-    by-legal true e = ap (asked t s) (narrow-keeps (wideOf w) e)
-    by-legal false e = rw (narrow-legal (wideOf w) ∙ e, e) refl
-
-module _ (t : List ℕ) (s : Small) (w : List ℕ) (v : ℕ) where
-  same-refusal : refusal t s (narrowed (wideOf w)) (narrow v) ≡ refusal t s (boxOf w) v
-  unfolding refusal
-  same-refusal = rw (narrow-legal (wideOf w), narrow-passes v) refl
-
-  -- a gust that passes fits its word
-  gust-kept : gustPasses (record { tenths = v }) ≡ true → narrow v ≡ v
-  gust-kept e = let h = leb-true v gustLimit e in omega (arith, h)
-
-  by-refusal : (b : Bool) → eqb (refusal t s (boxOf w) v) 0 ≡ b → recordInto t s (narrowed (wideOf w)) (narrow v) ≡ recordInto t s (boxOf w) v
-  by-refusal true e =
-      let a = not-refused t s (boxOf w) v (eqb-true (refusal t s (boxOf w) v) 0 e) in
-      ap₂ (recordInto t s) (narrow-keeps (wideOf w) (a .lawful)) (gust-kept (a .passes))
-  by-refusal false e =
-      let d = eqb-false (refusal t s (boxOf w) v) 0 e in
-      refused-law t s (narrowed (wideOf w)) (narrow v) (λ z. d (sym same-refusal ∙ z))
-      ∙ ap (λ n. refused n t s) same-refusal
-      ∙ sym (refused-law t s (boxOf w) v d)
-
-  -- The same record, narrowed or as handed in.
-  pub same-record : recordInto t s (narrowed (wideOf w)) (narrow v) ≡ recordInto t s (boxOf w) v
-  same-record = by-refusal (eqb (refusal t s (boxOf w) v) 0) refl
+use Rattle.rules.specs.RecordLaws.{refused-law}
+use Rattle.gustbook.specs.Boundary.{smallOf, numbersOf, boxOf, LeftInNumbers, leftInNumbers, Told, Recorded, recordLeaves}
 
 -- Five numbers are the small record that they make: a refusal leaves each of them as it was.
 pub five-numbers : (w : List ℕ) → length w ≡ 5 → numbersOf (smallOf w) ≡ w

@@ -11,7 +11,7 @@ use Rattle.index.specs.CallLaws.{leftOf}
 use Rattle.index.specs.declared.Counted.{Counted}
 use Rattle.index.specs.declared.Counted.the-variants as tell
 use Rattle.index.specs.declared.Ended.{Ended}
-use Rattle.lines.specs.Narrow.{narrow, narrowed}
+use Rattle.wide.specs.Wide.{narrow, narrowed}
 use Rattle.pages.specs.declared.Small.{Small}
 use Rattle.recording.specs.CallSteps.{replyOf, calledOf}
 use Rattle.recording.specs.RecordSteps.{outcomeIs}
@@ -21,7 +21,7 @@ use Rattle.recording.specs.declared.Reply as code-reply
 use Rattle.recording.specs.declared.Reply.the-variants as code-say
 use Rattle.rules.specs.Record.{recordInto}
 use Rattle.gustbook.specs.Boundary.{smallOf, numbersOf, wideOf, boxOf, leftInNumbers, Told, outcomeNumber, recordTold, recordLeaves, askTold, countTold}
-use Rattle.gustbook.specs.BoundaryLaws.{same-question, same-record}
+use Rattle.index.specs.WideCalls.{record-wide, ask-wide}
 
 -- the call as a whole
 pub left-told : (u w : List ℕ) (e : Ended) (l : Left) → leftOf u e ≡ l → w ≡ numbersOf (e .small) → record { refusal = e .refusal; table = u; small = w } ≡ leftInNumbers l
@@ -32,12 +32,12 @@ pub record-told : (t u w five six lent answer : List ℕ) (s : Small) (b : Box) 
     → record { told = record { refusal = r; answer = answer }; table = u; small = w } ≡ recordLeaves (recordInto t (smallOf five) (boxOf six) v) lent
 record-told t u w five six lent answer s b v n r c hs hb hv h f g =
     let e : calledOf u c ≡ recordInto t (smallOf five) (boxOf six) v =
-    h ∙ ap (λ x. recordInto t x b n) hs ∙ ap₂ (recordInto t (smallOf five)) hb hv ∙ same-record t (smallOf five) six v in
+    h ∙ ap (λ x. recordInto t x b n) hs ∙ ap₂ (recordInto t (smallOf five)) hb hv ∙ record-wide t (smallOf five) (wideOf six) v in
     ap₂ (λ x y. record { told = x; table = u; small = y }) g f ∙ ap (λ x. recordLeaves x lent) e
 
 pub ask-told : (t five six lent : List ℕ) (s : Small) (q : Box) (x : Asked) (y : Told) → s ≡ smallOf five → q ≡ narrowed (wideOf six) → x ≡ asked t s q
     → y ≡ askTold x lent → y ≡ askTold (asked t (smallOf five) (boxOf six)) lent
-ask-told t five six lent s q x y hs hq hx h = h ∙ ap (λ a. askTold a lent) (hx ∙ ap₂ (asked t) hs hq ∙ same-question t (smallOf five) six)
+ask-told t five six lent s q x y hs hq hx h = h ∙ ap (λ a. askTold a lent) (hx ∙ ap₂ (asked t) hs hq ∙ ask-wide t (smallOf five) (wideOf six))
 
 pub count-told : (t five lent : List ℕ) (s : Small) (x : Counted) (y : Told) → s ≡ smallOf five → x ≡ counted t s → y ≡ countTold x lent → y ≡ countTold (counted t (smallOf five)) lent
 count-told t five lent s x y hs hx h = h ∙ ap (λ a. countTold a lent) (hx ∙ ap (counted t) hs)

@@ -1,10 +1,10 @@
 // The small record and a box as the numbers that cross the boundary.
 use ground::Box;
-use lines::Span;
-use lines::Typed;
 use pages::Small;
+use wide::Span;
+use wide::WideBox;
 ghost use mathlib.Core.Path.{_≡_};
-ghost use Rattle.lines.specs.Narrow.{narrowed};
+ghost use Rattle.wide.specs.Wide.{narrowed};
 ghost use Rattle.gustbook.specs.Boundary.{smallOf, numbersOf, wideOf};
 
 pub fn small_of(numbers: &[u32; 5]) -> Small
@@ -41,5 +41,5 @@ pub fn box_of(numbers: &[u32; 6]) -> Box
         low: numbers[4],
         high: numbers[5],
     };
-    Typed { east, north, day }.narrow()
+    WideBox { east, north, day }.narrow()
 }

@@ -6,3 +6,4 @@ pub mod RunLaws
 pub mod ImageCalls
 pub mod Settled
 pub mod Marked
+pub mod WideCalls

@@ -8,7 +8,7 @@ use Rattle.ground.specs.Dates.{lengthOfYear, lengthOfMonth, isDate, daysBeforeY
 use Rattle.ground.specs.Sums.{total}
 use Rattle.lines.specs.Lines.{text, withByte, words, areDigits, numberFrom, isA, value, areA, values, same, command, commandOf, parsed}
 use Rattle.lines.specs.Printing.{decimalOf, printed}
-use Rattle.lines.specs.declared.reading.Typed.{Typed}
+use Rattle.wide.specs.declared.WideBox.{WideBox}
 use Rattle.lines.specs.declared.reading.Line.{Line}
 use Rattle.lines.specs.declared.reading.Line.the-variants.{Add, Ask, Count, Refused}
 use Rattle.lines.specs.declared.printing.Answer.the-variants.{Kept, Cut, Covered, Gust, Nothing, Counts, Refused as Refuses}
@@ -16,7 +16,7 @@ use Rattle.lines.specs.declared.printing.Answer.the-variants.{Kept, Cut,
 abbrev lineTyped : String → Line
 lineTyped s = parsed (text s)
 
-abbrev box : ℕ → ℕ → ℕ → ℕ → ℕ → ℕ → Typed
+abbrev box : ℕ → ℕ → ℕ → ℕ → ℕ → ℕ → WideBox
 box a b c d e f = record { east = record { low = a; high = b }; north = record { low = c; high = d }; day = record { low = e; high = f } }
 
 -- the eight lines of the transcript

@@ -2,7 +2,6 @@
 -- how the code goes through a line and a buffer, which no public promise but its proof speaks of.
 pub mod Lines
 pub mod Printing
-pub mod Narrow
 pub mod Examples
 pub mod NumberLaws
 pub mod LineLaws

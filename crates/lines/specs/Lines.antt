@@ -8,7 +8,7 @@ use lib.Dec.{leb, eqb}
 use lib.ListN.{length, getD, take, drop}
 use Rattle.ground.specs.Dates.{isDate, dayNumber}
 use Rattle.ground.specs.declared.dates.Date.{Date}
-use Rattle.lines.specs.declared.reading.Typed.{Typed}
+use Rattle.wide.specs.declared.WideBox.{WideBox}
 use Rattle.lines.specs.declared.reading.Line.{Line}
 use Rattle.lines.specs.declared.reading.Line.the-variants.{Add, Ask, Count, Refused}
 
@@ -106,7 +106,7 @@ abbrev pub countArguments : List Kind
 countArguments = []
 
 -- The box and the gust that the arguments' values are, in their order.
-abbrev pub boxTyped : List ℕ → Typed
+abbrev pub boxTyped : List ℕ → WideBox
 boxTyped vs =
     record {
       east = record { low = getD vs 0 0; high = getD vs 1 0 };

@@ -1,11 +1,11 @@
 // The arguments of a line, one after the other. A place goes along: where the next word starts, one past the end
 // once the line is read to its end, and two past it once a word was not what it must be.
-use crate::reading::Span;
-use crate::reading::Typed;
 use crate::words::read_digits;
 use crate::words::word_end;
 use ground::Date;
 use ground::DayNumber;
+use wide::Span;
+use wide::WideBox;
 ghost use mathlib.Core.Path.{_≡_};
 ghost use Prim.Native.Nat.{_≤_};
 ghost use lib.ListN.{length};
@@ -20,7 +20,7 @@ pub struct Argument {
 
 // The six arguments of a box, and the place after them.
 pub struct BoxRead {
-    pub typed: Typed,
+    pub typed: WideBox,
     pub next: usize,
 }
 
@@ -117,7 +117,7 @@ pub fn box_at(line: &[u8], at: usize) -> BoxRead
     let first = date_at(line, north_high.next);
     let last = date_at(line, first.next);
     BoxRead {
-        typed: Typed {
+        typed: WideBox {
             east: Span {
                 low: east_low.value,
                 high: east_high.value,

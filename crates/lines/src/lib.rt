@@ -8,7 +8,4 @@ mod words;
 pub use printing::Answer;
 pub use printing::print;
 pub use reading::Line;
-pub use reading::Span;
-pub use reading::Typed;
-pub use reading::narrow;
 pub use reading::parse;

@@ -3,65 +3,19 @@ use crate::arguments::box_at;
 use crate::arguments::number_at;
 use crate::words::same_word;
 use crate::words::word_end;
-use ground::Box;
-use ground::Range;
+use wide::WideBox;
 ghost use mathlib.Core.Path.{_≡_};
 ghost use Rattle.lines.specs.Lines.{parsed};
-ghost use Rattle.lines.specs.Narrow.{narrow, narrowOn, narrowed};
 ghost use Rattle.lines.specs.Cursor.{addFrom, askFrom};
-
-// Two ends as they were typed: up to 99,999, which is more than a page's word holds.
-pub struct Span {
-    pub low: u32,
-    pub high: u32,
-}
-
-// A box as it was typed, its dates as days.
-pub struct Typed {
-    pub east: Span,
-    pub north: Span,
-    pub day: Span,
-}
 
 // What a line asks for.
 pub enum Line {
     // A box and a gust.
-    Add(Typed, u32),
-    Ask(Typed),
+    Add(WideBox, u32),
+    Ask(WideBox),
     Count,
     // Refusal 9: the line has none of the forms.
     Refused,
-}
-
-impl Span {
-    fn narrow(self) -> Range
-        ensures { λ r. ⌜ r ≡ narrowOn self ⌝ }
-    {
-        Range {
-            low: narrow(self.low),
-            high: narrow(self.high),
-        }
-    }
-}
-
-impl Typed {
-    // The box for the book's calls. It is refused by 2 exactly when the numbers typed are.
-    pub fn narrow(self) -> Box
-        ensures { λ r. ⌜ r ≡ narrowed self ⌝ }
-    {
-        Box {
-            east: self.east.narrow(),
-            north: self.north.narrow(),
-            day: self.day.narrow(),
-        }
-    }
-}
-
-// A typed number in 16 bits: one that does not fit becomes the greatest that does, above every limit.
-pub fn narrow(n: u32) -> u16
-    ensures { λ r. ⌜ r ≡ narrow n ⌝ }
-{
-    if n <= 65535 { n as u16 } else { 65535 }
 }
 
 impl Line {

@@ -3,7 +3,7 @@ use gustbook::box_of;
 use gustbook::put_small;
 use gustbook::small_of;
 use gustbook::tell_recorded;
-use lines::narrow;
+use wide::narrow;
 ghost use mathlib.Core.Bool.{true};
 ghost use mathlib.Core.Path.{_≡_};
 ghost use Rattle.gustbook.specs.Boundary.{smallOf, boxOf, recordLeaves};

@@ -1,7 +1,7 @@
--- `lines::reading::Span::narrow` meets its contract.
+-- `wide::Span::narrow` meets its contract.
 use borrow.Author.Needs.{needs}
-use Rattle.lines.proofs.reading.Span.narrow.Statement.{statement}
-use Rattle.lines.proofs.reading.Span.narrow.Tie as tie
+use Rattle.wide.proofs.Span.narrow.Statement.{statement}
+use Rattle.wide.proofs.Span.narrow.Tie as tie
 
 narrow-requires : tie.Need-narrow-requires
 narrow-requires c κs = search needs

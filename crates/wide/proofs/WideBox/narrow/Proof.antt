@@ -1,7 +1,7 @@
--- `lines::reading::Typed::narrow` meets its contract.
+-- `wide::WideBox::narrow` meets its contract.
 use borrow.Author.Needs.{needs}
-use Rattle.lines.proofs.reading.Typed.narrow.Statement.{statement}
-use Rattle.lines.proofs.reading.Typed.narrow.Tie as tie
+use Rattle.wide.proofs.WideBox.narrow.Statement.{statement}
+use Rattle.wide.proofs.WideBox.narrow.Tie as tie
 
 narrow-requires : tie.Need-narrow-requires
 narrow-requires c κs = search needs

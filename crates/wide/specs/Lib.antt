@@ -1,0 +1,2 @@
+-- Numbers wider than a page's words, and what their narrowing keeps.
+pub mod Wide
