@@ -6,6 +6,7 @@ pub mod Facts
 pub mod LayoutLaws
 pub mod Words
 pub mod WordLaws
+pub mod Ends
 pub mod WritingLaws
 pub mod SummaryLaws
 pub mod GatherLaws

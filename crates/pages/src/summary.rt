@@ -4,21 +4,22 @@ use crate::Page;
 use crate::reading::count;
 use crate::reading::entry_box;
 use crate::reading::entry_gust;
-use crate::reading::entry_place;
+use crate::reading::entry_start;
 use crate::reading::entry_word;
 use crate::reading::level;
 use ground::Box;
 use ground::Range;
 ghost use mathlib.Core.Bool.{cond};
 ghost use mathlib.Core.Path.{_≡_};
-ghost use Prim.Native.Nat.{_≤_, _<_, min};
+ghost use Prim.Native.Nat.{_+_, _≤_, _<_, min};
 ghost use lib.Dec.{ltb};
 ghost use lib.ListN.{length};
-ghost use Rattle.pages.specs.Layout.{pageEntries, mostPages, levelAt, countAt, entryIn, pageAt};
+ghost use Rattle.pages.specs.Layout.{pageEntries, mostPages, levelAt, countAt, boxAt, entryIn, pageAt};
 ghost use Rattle.pages.specs.Facts.{InTable};
 ghost use Rattle.pages.specs.Summary.{isLeaf, inUse, recordBox, weakGust, unionBox, unionSize};
 ghost use Rattle.pages.specs.Summary.{covering, summaryOf};
 ghost use Rattle.pages.specs.GatherLaws.{emptySummary};
+ghost use Rattle.pages.specs.Ends.{turned, endsOf, least, boxed, Narrow};
 
 // Which word of an entry, after its first, holds what the summary takes.
 fn by_level(level: u16, leaf: usize, index: usize) -> usize
@@ -90,18 +91,85 @@ pub fn in_use(t: &[u16], p: usize) -> usize
     if n <= Page::ENTRIES { n } else { Page::ENTRIES }
 }
 
+// The six ends of a box side by side, the high ones turned upside down.
+// Then all ends of a covering box are the least of their kind, and the machine takes several at once.
+pub struct Ends {
+    pub east_low: u16,
+    pub east_high: u16,
+    pub north_low: u16,
+    pub north_high: u16,
+    pub day_low: u16,
+    pub day_high: u16,
+}
+
+// The greater a high end was, the less it is.
+fn turned(high: u16) -> u16
+    ensures { λ r. ⌜ (r ≡ turned high) × (high ≤ 65_535) ⌝ }
+{
+    65535 - high
+}
+
+impl Ends {
+    // Read in the order in which they lie.
+    fn at(t: &[u16], k: usize) -> Ends
+        requires { ⌜ k + 6 ≤ length (now t) ⌝ }
+        ensures { λ r. ⌜ (r ≡ endsOf (boxAt (now (t .entry)) k)) × Narrow (boxAt (now (t .entry)) k) ⌝ }
+    {
+        Ends {
+            east_low: t[k],
+            east_high: turned(t[k + 1]),
+            north_low: t[k + 2],
+            north_high: turned(t[k + 3]),
+            day_low: t[k + 4],
+            day_high: turned(t[k + 5]),
+        }
+    }
+
+    fn least(self, other: Ends) -> Ends
+        ensures { λ r. ⌜ r ≡ least self other ⌝ }
+    {
+        Ends {
+            east_low: weaker(self.east_low, other.east_low),
+            east_high: weaker(self.east_high, other.east_high),
+            north_low: weaker(self.north_low, other.north_low),
+            north_high: weaker(self.north_high, other.north_high),
+            day_low: weaker(self.day_low, other.day_low),
+            day_high: weaker(self.day_high, other.day_high),
+        }
+    }
+
+    fn boxed(self) -> Box
+        ensures { λ r. ⌜ r ≡ boxed self ⌝ }
+    {
+        Box {
+            east: Range {
+                low: self.east_low,
+                high: turned(self.east_high),
+            },
+            north: Range {
+                low: self.north_low,
+                high: turned(self.north_high),
+            },
+            day: Range {
+                low: self.day_low,
+                high: turned(self.day_high),
+            },
+        }
+    }
+}
+
 // The smallest box that covers the n entries in use, at least one. Its own loop: few numbers go round, so none is spilt.
 fn covering_at(t: &[u16], p: usize, n: usize) -> Box
     requires { ⌜ InTable (now t) p × (0 < n) × (n ≤ pageEntries) × (n ≡ length (inUse (pageAt (now t) p))) ⌝ }
     ensures { λ r. ⌜ r ≡ covering (inUse (pageAt (now (t .entry)) p)) ⌝ }
 {
     let mut i = n - 1;
-    let mut place = entry_place(t, p, i);
+    let mut ends = Ends::at(t, entry_start(p, i));
     while i > 0 {
         i -= 1;
-        place = entry_place(t, p, i).join(place);
+        ends = Ends::at(t, entry_start(p, i)).least(ends);
     }
-    place
+    ends.boxed()
 }
 
 // The summary of a page with n entries in use, at least one.
