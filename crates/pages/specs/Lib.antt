@@ -7,6 +7,7 @@ pub mod LayoutLaws
 pub mod Words
 pub mod WordLaws
 pub mod Ends
+pub mod Laid
 pub mod WritingLaws
 pub mod SummaryLaws
 pub mod GatherLaws

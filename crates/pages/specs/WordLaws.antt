@@ -20,7 +20,7 @@ use Rattle.pages.specs.declared.Entry.{Entry}
 use Rattle.pages.specs.Words.{every, allZero, sameWords}
 
 -- words k to k + n of a table are all 0: the first of them, and the rest
-pub zeroes : List ℕ → ℕ → ℕ → Bool
+unfoldable pub zeroes : List ℕ → ℕ → ℕ → Bool
 zeroes t k n = allZero (take n (drop k t))
 
 pub zeroes-none : (t : List ℕ) (k n : ℕ) → n ≡ 0 → zeroes t k n ≡ true

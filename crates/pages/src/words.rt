@@ -5,14 +5,16 @@ use crate::reading::entry_start;
 use crate::reading::read_entry;
 use ground::Box;
 use ground::Range;
+ghost use mathlib.Core.Bool.{true, _&&_};
 ghost use mathlib.Core.Path.{_≡_};
-ghost use Prim.Native.Nat.{_-_, _≤_, _<_, min};
+ghost use Prim.Native.Nat.{_+_, _-_, _≤_, _<_, min, max};
 ghost use lib.ListN.{length, drop};
 ghost use Rattle.pages.specs.Layout.{pageEntries, countAt, entryIn, pageAt};
 ghost use Rattle.pages.specs.Layout.{wordsOfRange, wordsOfBox, wordsOfEntry, wordsOfEntries, wordsOfPage};
 ghost use Rattle.pages.specs.Facts.{InTable};
 ghost use Rattle.pages.specs.Words.{allZero, sameWords};
 ghost use Rattle.pages.specs.WordLaws.{zeroes};
+ghost use Rattle.pages.specs.Laid.{wordsLaid};
 
 // No early exit: a test that is carried through runs over many words at a time.
 fn words_are_zero(t: &[u16], from: usize, to: usize) -> bool
@@ -45,13 +47,74 @@ pub fn unused_is_zero(t: &[u16], p: usize, n: usize) -> bool
     words_are_zero(t, start + (2 + n * Entry::WORDS), start + Page::WORDS)
 }
 
-// What stands in a leaf entry after its gust.
-pub fn rest_is_zero(t: &[u16], p: usize, i: usize) -> bool
-    requires { ⌜ InTable (now t) p × (i < pageEntries) ⌝ }
-    ensures { λ r. ⌜ r ≡ allZero (drop 7 (wordsOfEntry (entryIn (now (t .entry)) p i))) ⌝ }
+// Eight words, each the greatest of those that were laid there: it is 0 only if all of them were.
+// So many entries need one test in the end, and the machine lays eight words at once.
+pub struct Laid {
+    pub w0: u16,
+    pub w1: u16,
+    pub w2: u16,
+    pub w3: u16,
+    pub w4: u16,
+    pub w5: u16,
+    pub w6: u16,
+    pub w7: u16,
+}
+
+fn greater_word(a: u16, b: u16) -> u16
+    ensures { λ r. ⌜ r ≡ max a b ⌝ }
 {
-    let start = entry_start(p, i);
-    words_are_zero(t, start + 7, start + Entry::WORDS)
+    if a <= b { b } else { a }
+}
+
+impl Laid {
+    pub fn nothing() -> Laid
+        ensures { λ r. ⌜ allZero (wordsLaid r) ≡ true ⌝ }
+    {
+        Laid {
+            w0: 0,
+            w1: 0,
+            w2: 0,
+            w3: 0,
+            w4: 0,
+            w5: 0,
+            w6: 0,
+            w7: 0,
+        }
+    }
+
+    // The eight words from a place on.
+    fn over(self, t: &[u16], k: usize) -> Laid
+        requires { ⌜ k + 8 ≤ length (now t) ⌝ }
+        ensures { λ r. ⌜ allZero (wordsLaid r) ≡ (allZero (wordsLaid self) && zeroes (now (t .entry)) k 8) ⌝ }
+    {
+        Laid {
+            w0: greater_word(self.w0, t[k]),
+            w1: greater_word(self.w1, t[k + 1]),
+            w2: greater_word(self.w2, t[k + 2]),
+            w3: greater_word(self.w3, t[k + 3]),
+            w4: greater_word(self.w4, t[k + 4]),
+            w5: greater_word(self.w5, t[k + 5]),
+            w6: greater_word(self.w6, t[k + 6]),
+            w7: greater_word(self.w7, t[k + 7]),
+        }
+    }
+
+    // What stands in a leaf entry after its gust: fourteen words, in two rows of eight that share two.
+    pub fn over_rest(self, t: &[u16], p: usize, i: usize) -> Laid
+        requires { ⌜ InTable (now t) p × (i < pageEntries) ⌝ }
+        ensures { λ r. ⌜ allZero (wordsLaid r) ≡ (allZero (wordsLaid self) && allZero (drop 7 (wordsOfEntry (entryIn (now (t .entry)) p i)))) ⌝ }
+    {
+        let start = entry_start(p, i);
+        self.over(t, start + 7).over(t, start + 13)
+    }
+
+    pub fn is_zero(self) -> bool
+        ensures { λ r. ⌜ r ≡ allZero (wordsLaid self) ⌝ }
+    {
+        let first = (self.w0 == 0) & ((self.w1 == 0) & ((self.w2 == 0) & (self.w3 == 0)));
+        let second = (self.w4 == 0) & ((self.w5 == 0) & ((self.w6 == 0) & (self.w7 == 0)));
+        first & second
+    }
 }
 
 fn same_range(a: Range, b: Range) -> bool

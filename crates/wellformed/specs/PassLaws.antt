@@ -1,18 +1,17 @@
 -- Laws of the flat pass: its loops over entries, and its tests of a page as the definition says them.
-use Prim.Native.Nat.{ℕ, zero, suc, _+_, _-_, _≤_, _<_}
-use mathlib.Core.Bool.{Bool, true, false, _&&_, _||_, cond, and-true, and-assoc}
+use Prim.Native.Nat.{ℕ, _+_, _≤_, _<_}
+use mathlib.Core.Bool.{Bool, true, false, _&&_, and-true, and-assoc}
 use mathlib.Core.List.{List, [], _∷_, map}
 use mathlib.Core.Path.{_≡_, refl, sym, ap, ap₂, _∙_}
 use native.Mathlib.Numerals.{add-one}
 use native.Mathlib.Omega.{arith}
 use borrow.Author.Tests.{le-ltb, lt-ltb, le-leb, lt-leb, eq-eqb, ne-eqb}
-use lib.Dec.{leb, ltb, eqb}
-use lib.ListN.{length, getD, take, drop, drop-of-length-le}
+use lib.Dec.{leb, eqb}
+use lib.ListN.{length, getD, drop, drop-of-length-le}
 use lib.Seq.{drop-cons}
 use Rattle.ground.specs.Boxes.{legal, gustPasses}
 use Rattle.ground.specs.declared.boxes.Box.{Box}
-use Rattle.pages.specs.Facts.{Fitting, fitting, in-table}
-use Rattle.pages.specs.Layout.{pageEntries, countAt, pagesIn, tableFits, pagesOf, pageAt, levelAt, entryIn, zeroEntry, freePage, wordsOfEntry, wordsOfEntries, wordsOfPage}
+use Rattle.pages.specs.Layout.{pageEntries, countAt, pagesIn, tableFits, pagesOf, pageAt, levelAt, zeroEntry, wordsOfEntry, wordsOfEntries, wordsOfPage}
 use Rattle.pages.specs.LayoutLaws.{pages-length, pages-at, level-in, count-in}
 use Rattle.pages.specs.Summary.{inUse, summaryOf}
 use Rattle.pages.specs.Words.{every, allZero, sameWords}
@@ -58,10 +57,22 @@ module _ (t : List ℕ) (fits : tableFits t ≡ true) where
       let child = k ∙ ap (summaryOf c) (sym (page-is c p)) ∙ ap (λ n. summaryOf n (page (pagesOf t) n)) d in
       ap₂ (λ x y. x && y) (lower-inside level c b p q ∙ ap (isLower (pagesOf t) level) d) (s ∙ ap (λ x. sameWords (wordsOfEntry e) (wordsOfEntry x)) child)
 
--- a leaf entry's tests, each made where it lies
-pub leaf-entry-is : (e : Entry) (b : Box) (l : Bool) (v : ℕ) (g z : Bool) → b ≡ e .place → l ≡ legal b → v ≡ e .gust → g ≡ gustPasses (record { tenths = v }) → z ≡ allZero (drop 7 (wordsOfEntry e)) → (l && g && z) ≡ leafEntryStands e
+-- a leaf entry's box and gust; and all of it, with what was laid of those before
+abbrev pub recordStands : Entry → Bool
+recordStands e = legal (e .place) && gustPasses (record { tenths = e .gust })
+
+pub record-is : (e : Entry) (b : Box) (l : Bool) (v : ℕ) (g : Bool) → b ≡ e .place → l ≡ legal b → v ≡ e .gust → g ≡ gustPasses (record { tenths = v }) → (l && g) ≡ recordStands e
+record-is e b l v g p q r s = ap₂ (λ x y. x && y) (q ∙ ap legal p) (s ∙ ap (λ n. gustPasses (record { tenths = n })) r)
+
+pub leaf-turn : (e : Entry) (s z r x : Bool) → r ≡ recordStands e → x ≡ (z && allZero (drop 7 (wordsOfEntry e))) → (s && r && x) ≡ (s && z && leafEntryStands e)
 unfolding leafEntryStands
-leaf-entry-is e b l v g z p q r s u = ap₂ (λ x y. x && y) (ap₂ (λ x y. x && y) (q ∙ ap legal p) (s ∙ ap (λ n. gustPasses (record { tenths = n })) r)) u
+leaf-turn e s z r x p q = rw (p, q) (crossed s (recordStands e) z (allZero (drop 7 (wordsOfEntry e))))
+  where
+    crossed : (a b c d : Bool) → (a && b && (c && d)) ≡ (a && c && (b && d))
+    crossed true b true d = refl
+    crossed true true false d = refl
+    crossed true false false d = refl
+    crossed false b c d = refl
 
 -- what the pass asks of a page: its children are one level lower, and it stands
 abbrev pub pagePasses : List Page → Small → ℕ → Bool

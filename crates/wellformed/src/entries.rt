@@ -1,5 +1,6 @@
 // The entries in use of one page, tested where they lie.
 use ground::Gust;
+use pages::Laid;
 use pages::Page;
 ghost use mathlib.Core.Bool.{true, _&&_};
 ghost use mathlib.Core.Path.{_≡_};
@@ -10,29 +11,33 @@ ghost use Rattle.pages.specs.Layout.{pageEntries, tableFits, pagesIn, pagesOf, 
 ghost use Rattle.pages.specs.Summary.{inUse};
 ghost use Rattle.pages.specs.Words.{every};
 ghost use Rattle.wellformed.specs.WellFormed.{childOf, isLower, leafEntryStands, isExact};
-ghost use Rattle.wellformed.specs.PassLaws.{lowerAndExact};
+ghost use Rattle.wellformed.specs.PassLaws.{recordStands, lowerAndExact};
 
-fn leaf_entry_stands(t: &[u16], p: usize, i: usize) -> bool
+// Whether an entry's box and gust are legal.
+fn record_stands(t: &[u16], p: usize, i: usize) -> bool
     requires { ⌜ InTable (now t) p × (i < pageEntries) ⌝ }
-    ensures { λ r. ⌜ r ≡ leafEntryStands (entryIn (now (t .entry)) p i) ⌝ }
+    ensures { λ r. ⌜ r ≡ recordStands (entryIn (now (t .entry)) p i) ⌝ }
 {
     let gust = Gust {
         tenths: pages::entry_gust(t, p, i),
     };
-    pages::entry_place(t, p, i).legal() & gust.passes() & pages::rest_is_zero(t, p, i)
+    pages::entry_place(t, p, i).legal() & gust.passes()
 }
 
+// What stands after the gusts is laid together, and tested once in the end.
 pub fn leaf_entries_stand(t: &[u16], p: usize, n: usize) -> bool
     requires { ⌜ InTable (now t) p × (n ≤ pageEntries) × (n ≡ length (inUse (pageAt (now t) p))) ⌝ }
     ensures { λ r. ⌜ r ≡ every leafEntryStands (inUse (pageAt (now (t .entry)) p)) ⌝ }
 {
     let mut stands = true;
+    let mut rest = Laid::nothing();
     let mut i = 0;
     while i < n {
-        stands = stands & leaf_entry_stands(t, p, i);
+        stands = stands & record_stands(t, p, i);
+        rest = rest.over_rest(t, p, i);
         i += 1;
     }
-    stands
+    stands & rest.is_zero()
 }
 
 // Whether the child that an entry names is one level lower, and the entry exact for it.
