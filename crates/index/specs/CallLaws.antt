@@ -6,8 +6,9 @@ use mathlib.Core.Logic.{_↔_}
 use mathlib.Core.Path.{_≡_, refl, sym, ap, ap₂, _∙_}
 use native.Mathlib.Omega.{arith}
 use borrow.Author.Tests.{not-true, not-false, eq-eqb, ne-eqb, eqb-true}
-use lib.Dec.{eqb}
+use lib.Dec.{leb, eqb}
 use lib.ListN.{length, set, replicate, take, length-take}
+use Rattle.ground.specs.Tests.{both}
 use Rattle.image.specs.Image.{imageForm, imageLength, imageOf, imagePages, trailerOf, trailerGood, smallOf, tableOf as imageTable}
 use Rattle.image.specs.ByteLaws.{length-byteWords}
 use Rattle.image.specs.ImageLaws.{length-of-pages}
@@ -18,15 +19,16 @@ use Rattle.pages.specs.Facts.{fitting}
 use Rattle.pages.specs.Free.{emptyTable, emptySmall}
 use Rattle.pages.specs.Layout.{pageWords, pagesIn, tableFits, pagesOf}
 use Rattle.pages.specs.declared.Small.{Small}
-use Rattle.wellformed.specs.WellFormed.{heldRecords, wellFormed, checked}
+use Rattle.wellformed.specs.Parts.{parts}
+use Rattle.wellformed.specs.WellFormed.{heldRecords, mostAccepted, countsStand, wellFormed, checked}
 use Rattle.wellformed.specs.declared.verdict.Checked.{Checked}
 use Rattle.wellformed.specs.declared.verdict.Checked.the-variants.{Held, Damaged}
 use Rattle.rules.specs.Record.{firstOf}
-use Rattle.recording.specs.RefusalSteps.{well-held, well-damaged}
+use Rattle.wellformed.specs.VerdictLaws.{well-held, well-damaged, well-count}
 use Rattle.index.specs.declared.Counted.{Counted}
 use Rattle.index.specs.declared.Counted.the-variants.{Refused, Counts}
 use Rattle.index.specs.declared.Ended.{Ended}
-use Rattle.index.specs.Calls.{Left, Saved, unchanged, emptyBook, cleared, countsOf, counted, saveRefusal, saved, imageRefusal, pagesRefusal, imageSmall, loadedPages, loaded}
+use Rattle.index.specs.Calls.{Left, Saved, unchanged, emptyBook, cleared, countsOf, counted, countSays, saveRefusal, saved, imageRefusal, pagesRefusal, imageSmall, loadedPages, loaded}
 
 -- What a call leaves, by the code's answer.
 abbrev pub leftOf : List ℕ → Ended → Left
@@ -49,17 +51,9 @@ module _ (t : List ℕ) (s : Small) (b : Bool) (e : b ≡ tableFits t) where
   unfolding counted
   count-damaged k h f g = rw (sym e ∙ not-false b h, sym (well-damaged t s k f g))
 
-  held-is : (k : Checked) (n : ℕ) → k ≡ checked t s → k ≡ Held n → n ≡ length (heldRecords (pagesOf t) s)
-  unfolding checked
-  held-is k n f g =
-      let w : wellFormed t s ≡ true = sym (well-held t s k n f g) in
-      let c : Held n ≡ cond (wellFormed t s) (Held (length (heldRecords (pagesOf t) s))) Damaged = sym g ∙ f in
-      let d : Held n ≡ Held (length (heldRecords (pagesOf t) s)) = rw w at c in
-      cc
-
   pub count-held : (k : Checked) (n : ℕ) → not b ≡ false → k ≡ checked t s → k ≡ Held n → Counts (s .accepted) n (s .struck) (s .covered) ≡ counted t s
   unfolding counted
-  count-held k n h f g = rw (sym e ∙ not-false b h, sym (well-held t s k n f g)) (ap (λ m. Counts (s .accepted) m (s .struck) (s .covered)) (held-is k n f g))
+  count-held k n h f g = rw (sym e ∙ not-false b h, sym (well-held t s k f n g)) (ap (λ m. Counts (s .accepted) m (s .struck) (s .covered)) (well-count t s k f n g))
 
   pub save-unfit : (out : List ℕ) → not b ≡ true → record { refusal = 1; buffer = out } ≡ saved t s out
   unfolding saved saveRefusal
@@ -80,7 +74,7 @@ module _ (t : List ℕ) (s : Small) (b : Bool) (e : b ≡ tableFits t) where
   pub save-done : (out now : List ℕ) (k : Checked) (n : ℕ) → not b ≡ false → length out ≡ 2 * length t + 22 → k ≡ checked t s → k ≡ Held n → now ≡ imageOf imageForm t s → record { refusal = 0; buffer = now } ≡ saved t s out
   unfolding saved saveRefusal
   save-done out now k n h l f g q =
-      rw (sym e ∙ not-false b h, eq-eqb (length out) (imageLength (pagesIn t)) (image-long out h .0 l), sym (well-held t s k n f g)) (λ i. record { refusal = 0; buffer = q i })
+      rw (sym e ∙ not-false b h, eq-eqb (length out) (imageLength (pagesIn t)) (image-long out h .0 l), sym (well-held t s k f n g)) (λ i. record { refusal = 0; buffer = q i })
 
 -- an image whose length tells its pages has a trailer
 pub image-words : (n p : ℕ) (k : ImagePages) → k ≡ imagePages n → k ≡ Pages p → 22 ≤ n
@@ -107,18 +101,33 @@ module _ (image t : List ℕ) (k : ImagePages) (e : k ≡ imagePages (length ima
     pub refused-none : (x : Trailer) (c : Bool) → length t ≡ pageWords * p → x ≡ trailerOf image → c ≡ trailerGood imageForm p x → not c ≡ false → 0 ≡ imageRefusal image t
     refused-none x c l g h n = by-pages 0 (rw (f, eq-eqb (length t) (pageWords * p) l, sym g, sym h, not-false c n) refl)
 
--- an image that is not refused before it is read has the table's length
-pub read-long : (image t : List ℕ) (n : ℕ) → n ≡ imageRefusal image t → n ≡ 0 → length image ≡ 2 * length t + 22
-unfolding imageRefusal
-read-long image t n e z = by-pages (imagePages (length image)) refl (sym e ∙ z)
-  where
-    by-length : (c d : Bool) (p : ℕ) → c ≡ eqb (length t) (pageWords * p) → firstOf (not c) 1 (firstOf (not d) 8 0) ≡ 0 → length t ≡ pageWords * p
-    by-length true d p f h = eqb-true (length t) (pageWords * p) (sym f)
-    by-length false d p f h = absurd (omega arith)
+-- what an image that is not refused before it is read is known by
+pub record Passed (image t : List ℕ) : Type 0 where
+  pub pages : ℕ
+  pub size : imagePages (length image) ≡ Pages pages
+  pub fits : length t ≡ pageWords * pages
+  pub good : trailerGood imageForm pages (trailerOf image) ≡ true
 
-    by-pages : (k : ImagePages) → imagePages (length image) ≡ k → pagesRefusal image t k ≡ 0 → length image ≡ 2 * length t + 22
+pub passed : (image t : List ℕ) → imageRefusal image t ≡ 0 → Passed image t
+unfolding imageRefusal
+passed image t e = by-pages (imagePages (length image)) refl e
+  where
+    by-tests : (c d : Bool) → firstOf (not c) 1 (firstOf (not d) 8 0) ≡ 0 → (c ≡ true) × (d ≡ true)
+    by-tests true true h = (refl, refl)
+    by-tests true false h = absurd (omega arith)
+    by-tests false d h = absurd (omega arith)
+
+    by-pages : (k : ImagePages) → imagePages (length image) ≡ k → pagesRefusal image t k ≡ 0 → Passed image t
     by-pages WrongSize f h = absurd (omega arith)
-    by-pages (Pages p) f h = image-fits image t (Pages p) (sym f) p refl (by-length (eqb (length t) (pageWords * p)) (trailerGood imageForm p (trailerOf image)) p refl h)
+    by-pages (Pages p) f h =
+        let g = by-tests (eqb (length t) (pageWords * p)) (trailerGood imageForm p (trailerOf image)) h in
+        record { pages = p; size = f; fits = eqb-true (length t) (pageWords * p) (g .0); good = g .1 }
+
+-- it has the table's length
+pub read-long : (image t : List ℕ) (n : ℕ) → n ≡ imageRefusal image t → n ≡ 0 → length image ≡ 2 * length t + 22
+read-long image t n e z =
+    let x = passed image t (sym e ∙ z) in
+    image-fits image t (Pages (x .pages)) (sym (x .size)) (x .pages) refl (x .fits)
 
 read-table : (image t : List ℕ) → length image ≡ 2 * length t + 22 → length (imageTable image) ≡ length t
 unfolding imageTable
@@ -133,7 +142,7 @@ module _ (image t : List ℕ) (s : Small) (m : ℕ) (e : m ≡ imageRefusal imag
     pub load-done : (n : ℕ) → k ≡ Held n → unchanged 0 u x ≡ loaded image t s
     unfolding loaded
     load-done n g =
-        let w : wellFormed (imageTable image) (imageSmall image) ≡ true = ap₂ wellFormed (sym read) (sym small) ∙ sym (well-held u x k n f g) in
+        let w : wellFormed (imageTable image) (imageSmall image) ≡ true = ap₂ wellFormed (sym read) (sym small) ∙ sym (well-held u x k f n g) in
         rw (sym e, z, w) (λ i. record { refusal = 0; table = read i; small = small i })
 
     pub load-damaged : (after : List ℕ) (r : Small) → k ≡ Damaged → after ≡ emptyTable u → r ≡ emptySmall → record { refusal = 4; table = after; small = r } ≡ loaded image t s
@@ -143,3 +152,11 @@ module _ (image t : List ℕ) (s : Small) (m : ℕ) (e : m ≡ imageRefusal imag
         let l : length u ≡ length t = ap length read ∙ read-table image t (read-long image t m e z) in
         let c : after ≡ emptyTable t = a ∙ ap (λ n. set (replicate n 0) 0 1) l in
         rw (sym e, z, w) (λ i. record { refusal = 4; table = c i; small = b i })
+
+-- on a well-formed book held, struck and covered make up accepted
+pub counts-add-up : (t : List ℕ) (s : Small) → wellFormed t s ≡ true → countSays (counted t s) .held + countSays (counted t s) .struck + countSays (counted t s) .covered ≡ countSays (counted t s) .accepted
+unfolding counted countsStand
+counts-add-up t s w =
+    let p = parts t s w in
+    let c = both (leb (s .accepted) mostAccepted) (eqb (length (heldRecords (pagesOf t) s) + s .struck + s .covered) (s .accepted)) (p .counts) in
+    rw (p .fits, w) (eqb-true (length (heldRecords (pagesOf t) s) + s .struck + s .covered) (s .accepted) (c .1))

@@ -20,18 +20,17 @@ use Rattle.pages.specs.declared.Page.{Page}
 use Rattle.pages.specs.declared.Small.{Small}
 use Rattle.wellformed.specs.Parts.{parts}
 use Rattle.wellformed.specs.WellFormed.{page, heldRecords, wellFormed, mostAccepted, rootStands, countsStand}
-use Rattle.rules.specs.Record.{firstOf}
+use Rattle.recording.specs.RefusalSteps.{sound-small}
+use Rattle.index.specs.CallLaws.{passed}
 use Rattle.index.specs.Calls.{Left, Saved, unchanged, emptyBook, saveRefusal, saved, imageRefusal, pagesRefusal, imageSmall, loadedPages, loaded}
 
 -- a well-formed book of 16-bit words has room in the trailer
 savable : (t : List ℕ) (s : Small) → wellFormed t s ≡ true → Below 65_536 t → Savable (pagesIn t) s
-unfolding rootStands countsStand
+unfolding rootStands
 savable t s w words =
     let p = parts t s w in
     let r = three (ltb (s .root) (length (pagesOf t))) (eqb (page (pagesOf t) (s .root) .level) (s .height)) (leb 1 (s .height)) (p .root) in
-    let c = both (leb (s .accepted) mostAccepted) (eqb (length (heldRecords (pagesOf t) s) + s .struck + s .covered) (s .accepted)) (p .counts) in
-    let a = leb-true (s .accepted) mostAccepted (c .0) in
-    let k = eqb-true (length (heldRecords (pagesOf t) s) + s .struck + s .covered) (s .accepted) (c .1) in
+    let b = sound-small t s w in
     let root : s .root < pagesIn t = omega (arith, ltb-true (s .root) (length (pagesOf t)) (r .0), pages-length t) in
     let height = eqb-true (page (pagesOf t) (s .root) .level) (s .height) (r .1) in
     let level = ap (λ (x : Page). x .level) (pages-at t (s .root) root) ∙ level-in t (s .root) in
@@ -39,9 +38,9 @@ savable t s w words =
       most = fitting t (p .fits) .most;
       root = root;
       height = omega (arith, height, level, words (s .root * pageWords));
-      accepted = omega arith;
-      struck = omega arith;
-      covered = omega arith;
+      accepted = omega (arith, b .accepted);
+      struck = omega (arith, b .struck);
+      covered = omega (arith, b .covered);
     }
 
 -- an image of so many pages, for a table of as many, with a good trailer
@@ -62,30 +61,6 @@ saved-comes-back t u s r w words l =
     let small = loaded-small imageForm p t s (omega arith) long k in
     let n = not-refused (imageOf imageForm t s) u p size (omega arith) good in
     rw (n, table, small, w)
-
--- what an image that is not refused is known by
-record Passed (image t : List ℕ) : Type 0 where
-  pages : ℕ
-  size : length image ≡ imageLength pages
-  good : trailerGood imageForm pages (trailerOf image) ≡ true
-
-passed : (image t : List ℕ) → imageRefusal image t ≡ 0 → Passed image t
-unfolding imageRefusal
-passed image t e = by-pages (imagePages (length image)) refl e
-  where
-    by-tests : (c d : Bool) → firstOf (not c) 1 (firstOf (not d) 8 0) ≡ 0 → d ≡ true
-    by-tests true true h = refl
-    by-tests true false h = absurd (omega arith)
-    by-tests false d h = absurd (omega arith)
-
-    by-pages : (k : ImagePages) → imagePages (length image) ≡ k → pagesRefusal image t k ≡ 0 → Passed image t
-    by-pages WrongSize f h = absurd (omega arith)
-    by-pages (Pages p) f h =
-        record {
-          pages = p;
-          size = length-of-pages (length image) p f .length;
-          good = by-tests (eqb (length t) (pageWords * p)) (trailerGood imageForm p (trailerOf image)) h;
-        }
 
 -- a load that is not refused left the image's book, which is well-formed
 loads : (image t : List ℕ) (s : Small) → loaded image t s .refusal ≡ 0 → (imageRefusal image t ≡ 0) × (wellFormed (imageTable image) (imageSmall image) ≡ true) × (loaded image t s ≡ unchanged 0 (imageTable image) (imageSmall image))
@@ -109,8 +84,9 @@ unfolding saved saveRefusal
 saved-the-same image t out s bytes e l =
     let k = loads image t s e in
     let x = passed image t (k .0) in
+    let size = length-of-pages (length image) (x .pages) (x .size) .length in
     let w = k .1 in
     let f = parts (imageTable image) (imageSmall image) w .fits in
-    let long : length out ≡ imageLength (pagesIn (imageTable image)) = omega (arith, x .size, table-length (x .pages) image (x .size)) in
-    let same = saved-again imageForm (x .pages) image (x .size) bytes (x .good) in
+    let long : length out ≡ imageLength (pagesIn (imageTable image)) = omega (arith, size, table-length (x .pages) image size) in
+    let same = saved-again imageForm (x .pages) image size bytes (x .good) in
     rw (k .2, f, eq-eqb (length out) (imageLength (pagesIn (imageTable image))) long, w, same)

@@ -1,5 +1,4 @@
 -- How the code follows the rules, step by step.
-pub mod LoopLaws
 pub mod Views
 pub mod TableSteps
 pub mod PageSteps

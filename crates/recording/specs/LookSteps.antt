@@ -1,13 +1,14 @@
 -- Looking over a page's entries where they lie: which candidates leave the record as it is, and the loop, turn by turn.
 use Prim.Native.Nat.{ℕ, zero, suc, _+_, _-_, _≤_, _<_}
 use mathlib.Core.Bool.{Bool, true, false, _&&_, _||_, not, xor, cond, Bool·beq, false≢true, true≢false}
-use mathlib.Core.List.{List, [], _∷_}
-use mathlib.Core.Path.{_≡_, refl, sym, ap, subst, _∙_}
+use mathlib.Core.List.{List, [], _∷_, _++_}
+use mathlib.Core.Path.{_≡_, refl, sym, ap, ap₂, subst, _∙_}
+use native.Mathlib.Numerals.{add-one}
 use native.Mathlib.Omega.{arith}
 use borrow.Author.Tests.{le-leb, leb-true}
 use lib.Dec.{leb}
 use lib.ListN.{length, getD, take}
-use lib.Seq.{take-all}
+use lib.Seq.{take-suc, take-all}
 use Rattle.ground.specs.Axes.{beside, placed, touching-at}
 use Rattle.ground.specs.BoxLaws.{covers-trans}
 use Rattle.ground.specs.Boxes.{holds, touchesOn, touches, coversOn, covers}
@@ -23,13 +24,10 @@ use Rattle.pages.specs.LayoutLaws.{entry-in}
 use Rattle.pages.specs.Summary.{inUse}
 use Rattle.pages.specs.declared.Entry.{Entry}
 use Rattle.pages.specs.declared.Page.{Page}
-use Rattle.recording.specs.declared.look.Look.{Look}
-use Rattle.recording.specs.LoopLaws.{select-turn, select-end}
 use Rattle.rules.specs.Scan.{Sought, met, meets, candidate, scanEntry, scan}
 use Rattle.recording.specs.ScanSteps.{scanFrom, scan-start, scan-turn, scan-end}
-use Rattle.rules.specs.Strike.{isStruck, consIf, select, struckOf, rest, Struck, strikeAll, strikeOne, strike}
-use Rattle.recording.specs.StrikeSteps.{used-at}
-use Rattle.recording.specs.Views.{soughtOf}
+use Rattle.rules.specs.Strike.{isStruck, consIf, select, struckOf, rest, strikeAll, strikeOne, strike}
+use Rattle.recording.specs.StrikeSteps.{select-more, used-at}
 
 -- c covers b on two axes or more
 abbrev pub onTwoAxes : Box → Box → Bool
@@ -212,46 +210,63 @@ entry-within q (suc n) v e s w =
     let m = candidate (leb v (e .gust)) (e .strongest) s in
     candidate-within q (e .union) (leb v (e .weakest)) m (candidate-within q (e .strongest) (leb v (e .gust)) s w)
 
--- What a look over entries finds: what is left of the record, and, where none is struck, that none is. A box q, in which the record lies, decides what is looked at twice.
-pub record Looks (q : Box) (n v : ℕ) (es : List Entry) (s : Sought) (r : Look) : Type 0 where
-  pub found-is : soughtOf (r .found) ≡ scan n v es s
-  pub within : Within q (soughtOf (r .found) .box)
-  pub none-struck : r .struck ≡ false → struckOf (s .box) v es ≡ []
+-- A look over entries sees whether some may be struck: where none is seen, no box that lies in q strikes one.
+pub record Sees (q : Box) (v : ℕ) (es : List Entry) (r : Bool) : Type 0 where
+  pub none-struck : (b : Box) → Within q b → r ≡ false → struckOf b v es ≡ []
 
--- after the first i entries
-pub record Looked (q : Box) (n v : ℕ) (es : List Entry) (s : Sought) (i : ℕ) (struck : Bool) (found : Sought) : Type 0 where
-  pub so-far : scanFrom n v es i found ≡ scan n v es s
-  pub within : Within q (found .box)
-  pub none : struck ≡ false → struckOf (s .box) v (take i es) ≡ []
-
-module _ (q : Box) (n v : ℕ) (es : List Entry) (s : Sought) where
-  pub looked-none : Within q (s .box) → Looked q n v es s 0 false s
+module _ (q : Box) (v : ℕ) (es : List Entry) where
+  pub seen-none : Sees q v (take 0 es) false
   unfolding select
-  looked-none w = record { so-far = scan-start n v es s; within = w; none = λ z. refl }
+  seen-none = record { none-struck = λ b w z. refl }
 
-  pub looked-more : (i : ℕ) (e : Entry) (struck hit : Bool) (found new : Sought) → i < length es → e ≡ getD es i zeroEntry → Within q (s .box) → hit ≡ covers q (e .place) && leb (e .gust) v → new ≡ scanEntry n v e found
-      → Looked q n v es s i struck found → Looked q n v es s (i + 1) (struck || hit) new
-  looked-more i e struck hit found new l d w t z h =
+  pub seen-more : (i : ℕ) (e : Entry) (struck hit : Bool) → i < length es → e ≡ getD es i zeroEntry → hit ≡ covers q (e .place) && leb (e .gust) v → Sees q v (take i es) struck → Sees q v (take (i + 1) es) (struck || hit)
+  seen-more i e struck hit l d t h =
       record {
-        so-far = scan-turn n v i es e found new (scan n v es s) l d z (h .so-far);
-        within = subst (λ (x : Sought). Within q (x .box)) (sym z) (entry-within q n v e found (h .within));
-        none = λ f.
+        none-struck = λ b w f.
             let g = neither struck hit f in
-            let o : isStruck (s .box) v (getD es i zeroEntry) ≡ false = ap (isStruck (s .box) v) (sym d) ∙ not-struck q (s .box) v e w (sym t ∙ g .1) in
-            select-turn (isStruck (s .box) v) es i l ∙ rw o (h .none (g .0));
+            let o : isStruck b v (getD es i zeroEntry) ≡ false = ap (isStruck b v) (sym d) ∙ not-struck q b v e w (sym t ∙ g .1) in
+            ap (λ k. struckOf b v (take k es)) (add-one i)
+            ∙ ap (struckOf b v) (take-suc es i zeroEntry l)
+            ∙ select-more (isStruck b v) (take i es) (getD es i zeroEntry)
+            ∙ ap₂ (λ xs c. xs ++ consIf c (getD es i zeroEntry) []) (h .none-struck b w (g .0)) o;
       }
     where
       neither : (a c : Bool) → a || c ≡ false → (a ≡ false) × (c ≡ false)
       neither true c f = absurd (true≢false f)
       neither false c f = (refl, f)
 
-  pub looked-all : (i : ℕ) (r : Look) → length es ≤ i → Looked q n v es s i (r .struck) (soughtOf (r .found)) → Looks q n v es s r
-  looked-all i r l h =
-      record {
-        found-is = scan-end n v i es (soughtOf (r .found)) (scan n v es s) l (h .so-far);
-        within = h .within;
-        none-struck = λ f. sym (select-end (isStruck (s .box) v) es i l) ∙ h .none f;
-      }
+  pub seen-all : (i : ℕ) (r : Bool) → length es ≤ i → Sees q v (take i es) r → Sees q v es r
+  seen-all i r l h = subst (λ xs. Sees q v xs r) (take-all i es l) h
+
+-- the scan, after the first i entries
+pub record Scanned (q : Box) (n v : ℕ) (es : List Entry) (s : Sought) (i : ℕ) (found : Sought) : Type 0 where
+  pub so-far : scanFrom n v es i found ≡ scan n v es s
+  pub within : Within q (found .box)
+
+module _ (q : Box) (n v : ℕ) (es : List Entry) (s : Sought) where
+  pub scanned-none : Within q (s .box) → Scanned q n v es s 0 s
+  scanned-none w = record { so-far = scan-start n v es s; within = w }
+
+  pub scanned-more : (i : ℕ) (e : Entry) (found new : Sought) → i < length es → e ≡ getD es i zeroEntry → new ≡ scanEntry n v e found → Scanned q n v es s i found → Scanned q n v es s (i + 1) new
+  scanned-more i e found new l d z h =
+      record { so-far = scan-turn n v i es e found new (scan n v es s) l d z (h .so-far); within = subst (λ (x : Sought). Within q (x .box)) (sym z) (entry-within q n v e found (h .within)) }
+
+  pub scanned-all : (i : ℕ) (found : Sought) → length es ≤ i → Scanned q n v es s i found → found ≡ scan n v es s
+  scanned-all i found l h = scan-end n v i es found (scan n v es s) l (h .so-far)
+
+-- an entry that neither covers nor cuts is passed over
+pub leaf-passed : (q : Box) (v : ℕ) (e : Entry) (found : Sought) → Within q (found .box) → touches q (e .place) ≡ false → found ≡ scanEntry 0 v e found
+unfolding scanEntry
+leaf-passed q v e found w t = left-alone (leb v (e .gust)) (e .place) found (apart q (e .place) (found .box) w t)
+
+pub index-passed : (q : Box) (v : ℕ) (e : Entry) (found : Sought) → Within q (found .box) → touches q (e .strongest) || leb v (e .weakest) ≡ false → found ≡ scanEntry 1 v e found
+unfolding scanEntry
+index-passed q v e found w t = by-tests (touches q (e .strongest)) (leb v (e .weakest)) refl refl t
+  where
+    by-tests : (a b : Bool) → touches q (e .strongest) ≡ a → leb v (e .weakest) ≡ b → a || b ≡ false → found ≡ candidate (leb v (e .weakest)) (e .union) (candidate (leb v (e .gust)) (e .strongest) found)
+    by-tests true b x y f = absurd (true≢false f)
+    by-tests false true x y f = absurd (true≢false f)
+    by-tests false false x y f = too-weak (leb v (e .weakest)) (e .union) found y ∙ ap (candidate (leb v (e .weakest)) (e .union)) (left-alone (leb v (e .gust)) (e .strongest) found (apart q (e .strongest) (found .box) w x))
 
 -- an index page is scanned alike at every level
 pub scan-index : (n v : ℕ) (es : List Entry) (s : Sought) → 0 < n → scan 1 v es s ≡ scan n v es s
@@ -259,13 +274,6 @@ unfolding scan scanEntry
 scan-index zero v es s l = absurd (omega arith)
 scan-index (suc n) v [] s l = refl
 scan-index (suc n) v (e ∷ es) s l = scan-index (suc n) v es (candidate (leb v (e .weakest)) (e .union) (candidate (leb v (e .gust)) (e .strongest) s)) l
-
--- either kind of page
-pub looks-leaf : (q : Box) (n v : ℕ) (es : List Entry) (s : Sought) (r : Look) → n ≡ 0 → Looks q 0 v es s r → Looks q n v es s r
-looks-leaf q n v es s r z h = subst (λ m. Looks q m v es s r) (sym z) h
-
-pub looks-index : (q : Box) (n v : ℕ) (es : List Entry) (s : Sought) (r : Look) → 0 < n → Looks q 1 v es s r → Looks q n v es s r
-looks-index q n v es s r l h = record { found-is = h .found-is ∙ scan-index n v es s l; within = h .within; none-struck = h .none-struck }
 
 -- where none is struck, all stand, and no page is freed
 pub all-stand : (b : Box) (v : ℕ) (es : List Entry) → struckOf b v es ≡ [] → rest b v es ≡ es

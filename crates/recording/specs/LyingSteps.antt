@@ -18,13 +18,17 @@ use Rattle.split.specs.Split.{halves, pageFrom}
 use Rattle.wellformed.specs.WellFormed.{page}
 use Rattle.recording.specs.declared.Became as code-became
 use Rattle.recording.specs.declared.Became.the-variants as case
-use Rattle.recording.specs.PageSteps.{Tidy, level-is, in-use-is, count-is, pushed, put-there}
+use Rattle.recording.specs.PageSteps.{Tidy, count-is, pushed, put-there}
 use Rattle.rules.specs.Recording.{Became, Became.stands, settleBy, settle, splitPage, intoPage, exactAt}
 use Rattle.rules.specs.Scan.{handedIn}
 use Rattle.recording.specs.SettleSteps.{Settled, settledBy, settled, Settles, settled-few, own-tidy, one-more-tidy, came-standing, came-split, came-again, cameBack}
 use Rattle.recording.specs.TableSteps.{UsedAt}
 use Rattle.recording.specs.TidyLaws.{TidyPage, exact-length, tidy-from}
-use Rattle.recording.specs.Views.{Leaves, becameOf}
+use Rattle.recording.specs.LookSteps.{all-stand, nothing-struck}
+use Rattle.recording.specs.StrikeSteps.{strikePage}
+use Rattle.recording.specs.Views.{Leaves, Frees, becameOf}
+use Rattle.rules.specs.Strike.{struckOf, rest}
+use Rattle.ground.specs.declared.boxes.Box.{Box}
 
 -- page p with its entry at place i made exact, and page p settled with one entry more
 abbrev pub exactPage : List Page → ℕ → ℕ → Page
@@ -33,9 +37,28 @@ exactPage ps p i = pageFrom (page ps p .level) (exactAt ps (inUse (page ps p)) i
 abbrev pub settledAt : List Page → ℕ → Entry → Settled
 settledAt ps p e = settled ps p (page ps p .level) (inUse (page ps p) ++ (e ∷ []))
 
--- a page stored as it is leaves the table as it was
-pub own-leaves : (t : List ℕ) (p : ℕ) → Leaves t t (set (pagesOf t) p (page (pagesOf t) p))
-own-leaves t p = record { same-length = refl; pages-are = sym (set-getD (pagesOf t) p freePage) }
+-- at a leaf nothing is appended to what is covered
+abbrev pub leafSettled : Bool → List Page → ℕ → Entry → Settled
+leafSettled true ps p e = record { pages = ps; became = stands }
+leafSettled false ps p e = settledAt ps p e
+
+pub nothing-appended : (t : List ℕ) (p : ℕ) (c : Bool) (e : Entry) → c ≡ true → Settles t t case.Stands (leafSettled c (pagesOf t) p e)
+nothing-appended t p c e z = rw z (record { same-length = refl; pages-are = refl; became-is = refl })
+
+pub one-appended : (t u : List ℕ) (p : ℕ) (c : Bool) (d e : Entry) (r : code-became.Became) → c ≡ false → d ≡ e → Settles t u r (settledAt (pagesOf t) p d) → Settles t u r (leafSettled c (pagesOf t) p e)
+one-appended t u p c d e r z f h = rw (z, ← f) h
+
+-- a page none of whose entries is struck is already what would be stored
+pub none-to-strike : (n : ℕ) (b : Box) (v p : ℕ) (t : List ℕ) → TidyPage (page (pagesOf t) p) → struckOf b v (inUse (page (pagesOf t) p)) ≡ [] → Frees t t 0 0 (strikePage n b v (pagesOf t) p)
+none-to-strike n b v p t h none =
+    let x = page (pagesOf t) p in
+    let z = nothing-struck n b v (pagesOf t) (inUse x) none in
+    let same : pageFrom (x .level) (rest b v (inUse x)) ≡ x = ap (pageFrom (x .level)) (all-stand b v (inUse x) none) ∙ sym (h .is) in
+    record {
+      same-length = refl;
+      pages-are = sym (set-getD (pagesOf t) p freePage) ∙ ap₂ (λ qs (y : Page). set qs p y) (sym (ap (λ m. m .pages) z)) (sym same);
+      struck-is = omega (arith, ap (λ m. m .records) z);
+    }
 
 module _ (t : List ℕ) (p : ℕ) (h : TidyPage (page (pagesOf t) p)) where
   counted : (n : ℕ) → UsedAt t p n → n ≡ page (pagesOf t) p .count
@@ -98,7 +121,7 @@ exact-there ps p i = ⊎-elim (λ (l : p < length ps). getD-set-same ps p (exact
     past l = ap (λ (qs : List Page). page qs p) (set-out ps p (exactPage ps p i) l) ∙ none (List·getD-eq-default ps freePage {n = p} l)
 
 -- what stood in the page before does not matter
-settled-over : (ps : List Page) (p level : ℕ) (y : Page) (es : List Entry) → settled (set ps p y) p level es ≡ settled ps p level es
+pub settled-over : (ps : List Page) (p level : ℕ) (y : Page) (es : List Entry) → settled (set ps p y) p level es ≡ settled ps p level es
 unfolding settled settle splitPage
 settled-over ps p level y es = by-test (leb (length es) pageEntries)
   where

@@ -7,7 +7,7 @@ use Rattle.ground.specs.Tests.{below-or-not}
 use native.Mathlib.Numerals.{add-one}
 use native.Mathlib.Omega.{arith}
 use lib.ListN.{length, getD, set, take, drop, replicate, length-append, length-take, length-set, drop-of-length-le}
-use lib.Seq.{take-append-le, drop-append-le, take-suc, take-all, set-append-left, set-out}
+use lib.Seq.{take-append-le, drop-append-le, take-suc, take-all, set-append-left}
 use Rattle.pages.specs.Layout.{pageEntries, zeroEntry}
 use Rattle.pages.specs.Summary.{inUse}
 use Rattle.pages.specs.declared.Entry.{Entry}

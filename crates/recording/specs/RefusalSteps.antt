@@ -1,8 +1,8 @@
 -- The refusals in the code's order, and what a book that is not refused is known by.
-use Prim.Native.Nat.{ℕ, _+_, _-_}
-use mathlib.Core.Bool.{Bool, true, false, not, cond}
+use Prim.Native.Nat.{ℕ, _+_}
+use mathlib.Core.Bool.{Bool, true, false, not}
 use mathlib.Core.List.{List}
-use mathlib.Core.Path.{_≡_, refl, sym, _∙_}
+use mathlib.Core.Path.{_≡_, sym, _∙_}
 use native.Mathlib.Omega.{arith}
 use borrow.Author.Tests.{not-true, not-false, eq-eqb, ne-eqb, leb-true, eqb-true, ltb-true, le-ltb, lt-ltb, leb-false}
 use lib.Dec.{leb, ltb, eqb}
@@ -16,28 +16,9 @@ use Rattle.pages.specs.Layout.{tableFits, pagesOf}
 use Rattle.pages.specs.LayoutLaws.{pages-length}
 use Rattle.pages.specs.declared.Small.{Small}
 use Rattle.wellformed.specs.Parts.{parts}
-use Rattle.wellformed.specs.WellFormed.{wellFormed, mostAccepted, heldRecords, checked, rootStands, countsStand, page}
-use Rattle.wellformed.specs.declared.verdict.Checked.{Checked}
-use Rattle.wellformed.specs.declared.verdict.Checked.the-variants.{Held, Damaged}
+use Rattle.wellformed.specs.WellFormed.{wellFormed, mostAccepted, heldRecords, rootStands, countsStand, page}
 use Rattle.rules.specs.Record.{refusal}
 use Rattle.recording.specs.RecordSteps.{SoundSmall}
-
--- whether the check found the book well-formed
-pub well-held : (t : List ℕ) (s : Small) (k : Checked) (n : ℕ) → k ≡ checked t s → k ≡ Held n → true ≡ wellFormed t s
-unfolding checked
-well-held t s k n e d = by-test (wellFormed t s) (sym e ∙ d)
-  where
-    by-test : (b : Bool) → cond b (Held (length (heldRecords (pagesOf t) s))) Damaged ≡ Held n → true ≡ b
-    by-test true h = refl
-    by-test false h = let z : _≡_ {A = ℕ} 0 1 = cc in absurd (omega arith)
-
-pub well-damaged : (t : List ℕ) (s : Small) (k : Checked) → k ≡ checked t s → k ≡ Damaged → false ≡ wellFormed t s
-unfolding checked
-well-damaged t s k e d = by-test (wellFormed t s) (sym e ∙ d)
-  where
-    by-test : (b : Bool) → cond b (Held (length (heldRecords (pagesOf t) s))) Damaged ≡ Damaged → false ≡ b
-    by-test true h = let z : _≡_ {A = ℕ} 0 1 = cc in absurd (omega arith)
-    by-test false h = refl
 
 module _ (t : List ℕ) (s : Small) (b : Box) (v : ℕ) where
   pub refused-1 : (a : Bool) → a ≡ tableFits t → not a ≡ true → 1 ≡ refusal t s b v

@@ -4,11 +4,15 @@ use mathlib.Core.Bool.{Bool, true, false}
 use mathlib.Core.List.{List, [], _∷_}
 use mathlib.Core.Path.{_≡_, refl, sym, ap, ap₂, subst, _∙_}
 use native.Mathlib.Omega.{arith}
+use borrow.Author.Tests.{eqb-true}
+use lib.Dec.{leb, eqb}
 use lib.ListN.{length, getD, set}
+use lib.Seq.{getD-take}
+use Rattle.ground.specs.Tests.{both}
 use Rattle.pages.specs.Layout.{pagesIn, pagesOf, zeroEntry, freePage}
 use Rattle.pages.specs.Free.{lowestFree}
 use Rattle.pages.specs.LayoutLaws.{pages-length}
-use Rattle.pages.specs.Summary.{summaryOf}
+use Rattle.pages.specs.Summary.{inUse, summaryOf}
 use Rattle.pages.specs.declared.Entry.{Entry}
 use Rattle.pages.specs.declared.FreePage.{FreePage}
 use Rattle.pages.specs.declared.FreePage.the-variants.{At, NoPage}
@@ -74,10 +78,6 @@ pub record Again (f n v r : ℕ) (before after : List ℕ) (w : code-walked.Walk
   pub so-far : Walked
   pub walks : Walks before after w so-far
   pub leads : againFrom f n v r so-far ≡ target
-
-pub again-start : (f n v r : ℕ) (t u : List ℕ) (s : Sought) (w : code-walked.Walked) → f ≡ pagesIn t → Walks t u w (walkDown n v (pagesOf t) r s) → Again f n v r t u w (fromRoot (length (pagesOf t)) n v (pagesOf t) r s)
-again-start f n v r t u s w e h =
-    record { so-far = walkDown n v (pagesOf t) r s; walks = h; leads = sym (from-root-is f n v (pagesOf t) r s) ∙ ap (λ m. fromRoot m n v (pagesOf t) r s) (e ∙ sym (pages-length t)) }
 
 pub again-turn : (f n v r k : ℕ) (t u z : List ℕ) (w next : code-walked.Walked) (target : Walked) → 0 < f → isAgain (becameOf (w .became)) ≡ true → Again f n v r t u w target → Walks u z next (walkDown n v (pagesOf u) r (soughtOf (w .sought)))
     → k ≡ min (w .struck + next .struck) mostStruck → Again (f - 1) n v r t z (record { became = next .became; sought = next .sought; struck = k }) target
@@ -158,15 +158,17 @@ pub record Collapsing (n : ℕ) (before after : List ℕ) (r : ℕ) (target : Ro
   pub same-length : length after ≡ length before
   pub leads : collapse n (pagesOf after) r ≡ target
 
-pub collapse-turn : (n r c : ℕ) (t u w : List ℕ) (x : Page) (one : Bool) (target : Rooted) → 0 < n → x ≡ page (pagesOf u) r → one ≡ oneEntry x → one ≡ true → c ≡ getD (x .entries) 0 zeroEntry .child → Leaves u w (set (pagesOf u) r freePage)
+pub collapse-turn : (n r c : ℕ) (t u w : List ℕ) (x : Page) (one : Bool) (target : Rooted) → 0 < n → x ≡ page (pagesOf u) r → one ≡ oneEntry x → one ≡ true → c ≡ getD (inUse x) 0 zeroEntry .child → Leaves u w (set (pagesOf u) r freePage)
     → Collapsing n t u r target → Collapsing (n - 1) t w c target
 unfolding collapse
 collapse-turn zero r c t u w x one target o e d q f l h = absurd (omega arith)
 collapse-turn (suc n) r c t u w x one target o e d q f l h =
     let m : suc n - 1 ≡ n = omega arith in
     let i : oneEntry (page (pagesOf u) r) ≡ true = sym (ap oneEntry e) ∙ sym d ∙ q in
+    let k : x .count ≡ 1 = eqb-true (x .count) 1 (both (leb 2 (x .level)) (eqb (x .count) 1) (sym d ∙ q) .1) in
+    let j : c ≡ getD (x .entries) 0 zeroEntry .child = f ∙ ap (λ (y : Entry). y .child) (getD-take (x .count) (x .entries) 0 zeroEntry (omega arith)) in
     let g : collapse n (pagesOf w) c ≡ collapse (suc n) (pagesOf u) r =
-    ap₂ (λ ps b. collapse n ps b) (l .pages-are) (f ∙ ap (λ (y : Page). getD (y .entries) 0 zeroEntry .child) e) ∙ sym (ap (λ b. collapseBy b (collapse n) (pagesOf u) r) i) in
+    ap₂ (λ ps b. collapse n ps b) (l .pages-are) (j ∙ ap (λ (y : Page). getD (y .entries) 0 zeroEntry .child) e) ∙ sym (ap (λ b. collapseBy b (collapse n) (pagesOf u) r) i) in
     rw m (record { same-length = l .same-length ∙ h .same-length; leads = g ∙ h .leads })
 
 pub collapse-done : (n r : ℕ) (t u : List ℕ) (x : Page) (one : Bool) (target : Rooted) → x ≡ page (pagesOf u) r → one ≡ oneEntry x → one ≡ false → Collapsing n t u r target → Roots t u r target

@@ -2,11 +2,11 @@
 use Prim.Native.Nat.{ℕ, _+_, _-_, _≤_, _<_}
 use mathlib.Core.Bool.{Bool, true, false}
 use mathlib.Core.List.{List, [], _∷_, _++_, append-nil}
-use mathlib.Core.Path.{_≡_, refl, sym, ap, ap₂, subst, _∙_}
+use mathlib.Core.Path.{_≡_, refl, sym, ap, ap₂, _∙_}
 use native.Mathlib.Omega.{arith}
 use borrow.Author.Tests.{le-leb, lt-leb}
 use lib.Dec.{leb}
-use lib.ListN.{length, getD, set, replicate, length-append, List·getD-eq-default}
+use lib.ListN.{length, getD, set, replicate, length-append}
 use Rattle.pages.specs.Facts.{fitting}
 use Rattle.pages.specs.Free.{lowestFree}
 use Rattle.pages.specs.FreeLaws.{lowest-at}
@@ -25,7 +25,6 @@ use Rattle.recording.specs.declared.Became.the-variants as case
 use Rattle.rules.specs.Scan.{Sought, handedIn}
 use Rattle.rules.specs.Recording.{Became, Became.stands, Became.split, Became.emptied, Became.again, Walked, intoPage, splitPage, settleBy, settle, exactAt, comeBackBy, comeBack}
 use Rattle.recording.specs.PageSteps.{Tidy, in-use-is, level-is, count-is}
-use Rattle.recording.specs.StrikeSteps.{used-at}
 use Rattle.recording.specs.Views.{Leaves, becameOf}
 
 -- the pages and what became of the page
@@ -139,13 +138,6 @@ settled-unsplit t u p x e h f o n d a g z =
 pub free-number : (u : List ℕ) (q : ℕ) (f : FreePage) → tableFits u ≡ true → f ≡ lowestFree (pagesOf u) → f ≡ At q → q < mostPages
 free-number u q f h e z = let l = lowest-at (pagesOf u) q (sym e ∙ z) in omega (arith, l .within, pages-length u, fitting u h .most)
 
--- the child at place i, 0 past the end
-pub child-out : (x : Page) (i n : ℕ) → n ≡ length (inUse x) → n ≤ i → 0 ≡ getD (inUse x) i zeroEntry .child
-child-out x i n e l = sym (ap (λ (y : Entry). y .child) (List·getD-eq-default (inUse x) zeroEntry {n = i} (omega arith)))
-
-pub child-in : (x : Page) (i n : ℕ) → n ≡ length (inUse x) → i < n → getD (x .entries) i zeroEntry .child ≡ getD (inUse x) i zeroEntry .child
-child-in x i n e l = ap (λ (y : Entry). y .child) (used-at x i (omega arith))
-
 -- the four ways back
 pub came-standing : (t u : List ℕ) (p i : ℕ) (o : code-became.Became) (y : Page) (r : code-became.Became) → o ≡ case.Stands → Tidy y (page (pagesOf t) p .level) (exactAt (pagesOf t) (inUse (page (pagesOf t) p)) i)
     → Settles t u r (settled (pagesOf t) p (y .level) (inUse y)) → Settles t u r (cameBack (becameOf o) (pagesOf t) p i)
@@ -164,13 +156,16 @@ came-split t u p i q o y e r d h m s =
     let g : Settles t u r (settled (pagesOf t) p (page (pagesOf t) p .level) es) = rw (a, b, m) at s in
     rw d (record { same-length = g .same-length; pages-are = g .pages-are ∙ ap (λ w. w .pages) (sym (settle-passes (pagesOf t) p (page (pagesOf t) p .level) es (handedIn zeroBox) (0 + 0))); became-is = g .became-is ∙ ap (λ w. w .became) (sym (settle-passes (pagesOf t) p (page (pagesOf t) p .level) es (handedIn zeroBox) (0 + 0))) })
 
-pub came-emptied : (t u w : List ℕ) (p i c : ℕ) (o : code-became.Became) (x y : Page) → o ≡ case.Emptied → x ≡ page (pagesOf t) p → c ≡ getD (inUse x) i zeroEntry .child → Leaves t u (set (pagesOf t) c freePage)
-    → y ≡ pageFrom (x .level) (without i (inUse x)) → Leaves u w (set (pagesOf u) p y) → Settles t w case.Again (cameBack (becameOf o) (pagesOf t) p i)
+pub let-go : (t u w : List ℕ) (p i c : ℕ) (x y : Page) → x ≡ page (pagesOf t) p → c ≡ getD (inUse (page (pagesOf t) p)) i zeroEntry .child → Leaves t u (set (pagesOf t) c freePage)
+    → y ≡ pageFrom (x .level) (without i (inUse x)) → Leaves u w (set (pagesOf u) p y) → Settles t w case.Again (cameBack emptied (pagesOf t) p i)
 unfolding cameBack comeBack
-came-emptied t u w p i c o x y d e f a g b =
+let-go t u w p i c x y e f a g b =
     let h : set (pagesOf u) p y ≡ set (set (pagesOf t) (getD (inUse (page (pagesOf t) p)) i zeroEntry .child) freePage) p (pageFrom (page (pagesOf t) p .level) (without i (inUse (page (pagesOf t) p)))) =
-    ap₂ (λ xs z. set xs p z) (a .pages-are ∙ ap (λ n. set (pagesOf t) n freePage) (f ∙ ap (λ (z : Page). getD (inUse z) i zeroEntry .child) e)) (g ∙ ap (λ (z : Page). pageFrom (z .level) (without i (inUse z))) e) in
-    rw d (record { same-length = b .same-length ∙ a .same-length; pages-are = b .pages-are ∙ h; became-is = refl })
+    ap₂ (λ xs z. set xs p z) (a .pages-are ∙ ap (λ n. set (pagesOf t) n freePage) f) (g ∙ ap (λ (z : Page). pageFrom (z .level) (without i (inUse z))) e) in
+    record { same-length = b .same-length ∙ a .same-length; pages-are = b .pages-are ∙ h; became-is = refl }
+
+pub came-emptied : (t u : List ℕ) (p i : ℕ) (o r : code-became.Became) → o ≡ case.Emptied → Settles t u r (cameBack emptied (pagesOf t) p i) → Settles t u r (cameBack (becameOf o) (pagesOf t) p i)
+came-emptied t u p i o r e h = rw e h
 
 pub came-again : (t u : List ℕ) (p i : ℕ) (o : code-became.Became) (y : Page) → o ≡ case.Again → Tidy y (page (pagesOf t) p .level) (exactAt (pagesOf t) (inUse (page (pagesOf t) p)) i) → Leaves t u (set (pagesOf t) p y) → Settles t u case.Again (cameBack (becameOf o) (pagesOf t) p i)
 unfolding cameBack comeBack

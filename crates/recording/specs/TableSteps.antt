@@ -5,13 +5,15 @@ use mathlib.Core.List.{List}
 use mathlib.Core.Path.{_≡_, refl, sym, ap, _∙_}
 use mathlib.Core.Logic.{⊎-elim}
 use native.Mathlib.Omega.{arith}
-use Rattle.ground.specs.Tests.{below-or-not}
+use borrow.Author.Tests.{eq-eqb, eqb-true}
+use lib.Dec.{eqb}
+use Rattle.ground.specs.Tests.{below-or-not, same-test}
 use lib.ListN.{length, getD, take, set, length-take, length-set, List·getD-eq-default}
 use lib.Seq.{set-out, getD-take}
 use Rattle.pages.specs.Facts.{in-table}
 use Rattle.pages.specs.GatherLaws.{emptySummary, summary-none}
-use Rattle.pages.specs.Layout.{pageEntries, pagesIn, tableFits, levelAt, countAt, pageAt, entryIn, zeroEntry, putPage, withEntry, pagesOf, freePage}
-use Rattle.pages.specs.LayoutLaws.{level-in, count-in, entry-in, put-length, page-eight, put-pages, pages-at, pages-length, fits-alike}
+use Rattle.pages.specs.Layout.{pageEntries, pagesIn, tableFits, levelAt, pageAt, entryIn, zeroEntry, putPage, withEntry, pagesOf, freePage}
+use Rattle.pages.specs.LayoutLaws.{level-in, entry-in, put-length, page-eight, put-pages, pages-at, pages-length, fits-alike}
 use Rattle.pages.specs.Summary.{inUse, summaryOf}
 use Rattle.pages.specs.declared.Entry.{Entry}
 use Rattle.pages.specs.declared.Page.{Page}
@@ -27,12 +29,6 @@ load-out t p r h e = e ∙ sym (List·getD-eq-default (pagesOf t) freePage {n = 
 -- a word of a page, where it lies
 pub level-there : (t : List ℕ) (p r : ℕ) → p < pagesIn t → r ≡ levelAt t p → r ≡ page (pagesOf t) p .level
 level-there t p r h e = e ∙ sym (level-in t p) ∙ ap (λ (x : Page). x .level) (sym (pages-at t p h))
-
-pub count-there : (t : List ℕ) (p r : ℕ) → p < pagesIn t → r ≡ countAt t p → r ≡ page (pagesOf t) p .count
-count-there t p r h e = e ∙ sym (count-in t p) ∙ ap (λ (x : Page). x .count) (sym (pages-at t p h))
-
-pub child-there : (t : List ℕ) (p r : ℕ) → p < pagesIn t → r ≡ entryIn t p 0 .child → r ≡ getD (page (pagesOf t) p .entries) 0 zeroEntry .child
-child-there t p r h e = e ∙ ap (λ (x : Entry). x .child) (sym (entry-in t p 0 (omega arith))) ∙ ap (λ (x : Page). getD (x .entries) 0 zeroEntry .child) (sym (pages-at t p h))
 
 pub store-in : (t u : List ℕ) (p : ℕ) (x : Page) → tableFits t ≡ true → p < pagesIn t → length (x .entries) ≡ pageEntries → u ≡ putPage t p x → Leaves t u (set (pagesOf t) p x)
 store-in t u p x f h n e =
@@ -63,12 +59,6 @@ used-all n es e h = omega (arith, length-take n es)
 
 pub used-most : (x : Page) → length (x .entries) ≡ pageEntries → length (inUse x) ≤ pageEntries
 used-most x e = omega (arith, length-take (x .count) (x .entries))
-
--- a page that is read has eight entries
-pub loaded-eight : (t : List ℕ) (p : ℕ) (x : Page) → x ≡ page (pagesOf t) p → length (x .entries) ≡ pageEntries
-loaded-eight t p x e =
-    ap (λ (y : Page). length (y .entries)) e
-    ∙ ⊎-elim (λ (h : p < pagesIn t). ap (λ (y : Page). length (y .entries)) (pages-at t p h) ∙ page-eight t p) (λ (h : pagesIn t ≤ p). ap (λ (y : Page). length (y .entries)) (sym (load-out t p freePage h refl))) (below-or-not p (pagesIn t))
 
 -- how many entries of page p are in use, and that there is such a page if some are
 pub record UsedAt (t : List ℕ) (p r : ℕ) : Type 0 where
@@ -102,3 +92,13 @@ put-in t u p n i e f h d =
     let k = pages-at t p h in
     let l = store-in t u p (withEntry (pageAt t p) n i e) f h (length-set (pageAt t p .entries) i e ∙ page-eight t p) d in
     record { same-length = l .same-length; pages-are = l .pages-are ∙ ap (λ (y : Page). set (pagesOf t) p (withEntry y n i e)) (sym k) }
+
+-- one entry in use is a count of one
+pub one-used : (t : List ℕ) (p n : ℕ) → UsedAt t p n → eqb n 1 ≡ eqb (page (pagesOf t) p .count) 1
+one-used t p n u =
+    let x = page (pagesOf t) p in
+    let l = length-take (x .count) (x .entries) in
+    let k : length (x .entries) ≡ pageEntries = ⊎-elim (λ (h : p < pagesIn t). ap (λ (y : Page). length (y .entries)) (pages-at t p h) ∙ page-eight t p) (λ (h : pagesIn t ≤ p). ap (λ (y : Page). length (y .entries)) (sym (load-out t p freePage h refl))) (below-or-not p (pagesIn t)) in
+    same-test (eqb n 1) (eqb (x .count) 1)
+    (λ e. let z = eqb-true n 1 e in eq-eqb (x .count) 1 (omega (arith, u .is, l, k)))
+    (λ e. let z = eqb-true (x .count) 1 e in eq-eqb n 1 (omega (arith, u .is, l, k)))

@@ -2,7 +2,7 @@
 use Prim.Native.Nat.{ℕ, zero, suc, _+_, _-_, _≤_}
 use mathlib.Core.Bool.{Bool, true, false}
 use mathlib.Core.List.{List, [], _∷_, _++_}
-use mathlib.Core.Path.{_≡_, refl, sym, ap, _∙_, subst}
+use mathlib.Core.Path.{_≡_, refl, sym, ap, _∙_}
 use native.Mathlib.Omega.{arith}
 use borrow.Author.Tests.{leb-true, leb-false}
 use lib.Dec.{leb}
@@ -22,7 +22,7 @@ use Rattle.recording.specs.PageSteps.{Tidy}
 use Rattle.rules.specs.Recording.{Became, Became.stands, Became.split, Became.emptied, Became.again, Walked, Walk, Next, intoPage, splitPage, settleBy, settle, exactAt, comeBackBy, comeBack, append, goDown, unlessCovered, goOn, atPage, walkDown, choose, leafEntry}
 use Rattle.rules.specs.Scan.{Sought, scan}
 use Rattle.rules.specs.Strike.{Struck, strikeAll, strikeOne, strike, struckOf, rest}
-use Rattle.recording.specs.StrikeSteps.{rest-few, rest-all}
+use Rattle.recording.specs.StrikeSteps.{rest-most}
 
 abbrev pub TidyPage : Page → Type 0
 TidyPage x = Tidy x (x .level) (inUse x)
@@ -142,7 +142,7 @@ at-tidied n v next f ps p s h =
     let x = page ps p in
     let t = strike n (s .box) v ps (inUse x) in
     let es = inUse x in
-    let l : length (rest (s .box) v es) ≤ length es = omega (arith, rest-few (s .box) v (length es) es (omega arith), ap length (rest-all (s .box) v (length es) es (omega arith))) in
+    let l = rest-most (s .box) v es in
     let m = h p .most in
     go-on-tidied n v next f (t .pages) p (x .level) (rest (s .box) v es) s (t .records) (omega arith) (strike-tidied n (s .box) v ps es h)
 

@@ -2,7 +2,7 @@
 use Prim.Native.Nat.{ℕ, zero, suc, _+_}
 use mathlib.Core.Bool.{Bool, true, false}
 use mathlib.Core.List.{List, [], _∷_, _++_}
-use mathlib.Core.Path.{_≡_, refl, sym, ap, subst, _∙_}
+use mathlib.Core.Path.{_≡_, refl, sym, subst, _∙_}
 use native.Mathlib.Omega.{arith}
 use lib.ListN.{getD, set}
 use lib.Dec.{leb}
@@ -17,7 +17,7 @@ use Rattle.pages.specs.declared.Entry.{Entry}
 use Rattle.pages.specs.declared.FreePage.{FreePage}
 use Rattle.pages.specs.declared.FreePage.the-variants.{At, NoPage}
 use Rattle.pages.specs.declared.Page.{Page}
-use Rattle.split.specs.Split.{halves, pageFrom, without}
+use Rattle.split.specs.Split.{halves, pageFrom}
 use Rattle.wellformed.specs.WellFormed.{page}
 use Rattle.recording.specs.LookSteps.{Within, entry-within}
 use Rattle.rules.specs.Recording.{Became, Became.stands, Became.split, Became.emptied, Became.again, Walked, Walk, Next, exactAt, intoPage, splitPage, settleBy, settle, comeBackBy, comeBack, append, goDown, unlessCovered, goOn, atPage, walkDown, choose, leafEntry}

@@ -1,8 +1,6 @@
 // Rule 4: the entry whose box grows least in size to cover the box; ties: smaller size, then lower place.
-use crate::table::used;
 use ground::Box;
 use pages::Entry;
-use pages::Page;
 ghost use mathlib.Core.Bool.{cond};
 ghost use mathlib.Core.Path.{_≡_};
 ghost use lib.ListN.{length};
@@ -54,25 +52,7 @@ impl Choice {
     }
 }
 
-pub fn choose(b: Box, x: Page) -> usize
-    ensures { λ r. ⌜ r ≡ choose b (inUse x) ⌝ }
-{
-    let count = used(x);
-    if count == 0 {
-        return 0;
-    }
-    let first = x.entries[0];
-    let mut best = Choice::of(b, first, 0);
-    let mut i = 1;
-    while i < count {
-        let e = x.entries[i];
-        best = best.or_later(Choice::of(b, e, i as u64));
-        i += 1;
-    }
-    best.at as usize
-}
-
-// The same of page p, where its entries lie.
+// Among the entries of page p, where they lie.
 pub fn choose_at(t: &[u16], p: usize, b: Box) -> usize
     requires { ⌜ InTable (now t) p ⌝ }
     ensures { λ r. ⌜ r ≡ choose b (inUse (pageAt (now (t .entry)) p)) ⌝ }

@@ -18,7 +18,6 @@ pub use call::record;
 pub use call::record_sound;
 use ground::Box;
 use pages::Small;
-pub use sound::recorded;
 
 // What is being recorded: the box as already cut, whether it was cut, and whether a candidate covers it.
 // It is copied at every page, and sixteen bytes are copied at once: the spare word, which means nothing, fills them up.

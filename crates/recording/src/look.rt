@@ -2,24 +2,18 @@
 // The sieve of a box in which the record lies passes over most of them, eight words at once.
 use crate::Sought;
 use ground::Box;
-ghost use mathlib.Core.Bool.{_&&_};
+ghost use mathlib.Core.Bool.{_&&_, _||_};
 ghost use mathlib.Core.Path.{_≡_};
 ghost use Prim.Native.Nat.{_<_};
 ghost use lib.Dec.{leb};
-ghost use Rattle.ground.specs.Boxes.{covers};
+ghost use Rattle.ground.specs.Boxes.{touches, covers};
 ghost use Rattle.pages.specs.Facts.{InTable};
 ghost use Rattle.pages.specs.Layout.{pageEntries, entryIn, pageAt};
 ghost use Rattle.pages.specs.Summary.{inUse};
 ghost use Rattle.sieve.specs.Sieve.{questionOf, IsSieve};
-ghost use Rattle.recording.specs.LookSteps.{onTwoAxes, Within, Looks};
-ghost use Rattle.rules.specs.Scan.{candidate};
+ghost use Rattle.recording.specs.LookSteps.{onTwoAxes, Within, Sees};
+ghost use Rattle.rules.specs.Scan.{candidate, scan};
 ghost use Rattle.recording.specs.Views.{soughtOf};
-
-// What the scan of all entries leaves: it counts only where none is struck.
-pub struct Look {
-    pub struck: bool,
-    pub found: Sought,
-}
 
 // A box that covers another on fewer than two axes neither covers nor cuts it.
 fn on_two_axes(x: Box, b: Box) -> bool
@@ -86,45 +80,59 @@ fn struck_at(t: &[u16], p: usize, i: usize, v: u16, q: &[u16; 32]) -> bool
     sieve::place_covered(t, p, i, q) & (pages::entry_gust(t, p, i) <= v)
 }
 
-fn look_over_leaf(t: &[u16], p: usize, v: u16, q: &[u16; 32], s: Sought) -> Look
-    requires { ⌜ InTable (now t) p × IsSieve (now q) × Within (questionOf (now q)) (s .place) ⌝ }
-    ensures { λ r. ⌜ Looks (questionOf (now (q .entry))) 0 v (inUse (pageAt (now (t .entry)) p)) (soughtOf s) r ⌝ }
+// Whether some entry of page p may be struck: what a smaller box strikes, the sieve's box covers.
+pub fn some_struck(t: &[u16], p: usize, v: u16, q: &[u16; 32]) -> bool
+    requires { ⌜ InTable (now t) p × IsSieve (now q) ⌝ }
+    ensures { λ r. ⌜ Sees (questionOf (now (q .entry))) v (inUse (pageAt (now (t .entry)) p)) r ⌝ }
 {
     let count = pages::in_use(t, p);
     let mut struck = false;
-    let mut found = s;
     let mut i = 0;
     while i < count {
         struck = struck | struck_at(t, p, i, v, q);
-        found = meet_place(t, p, i, v, q, found);
         i += 1;
     }
-    Look { struck, found }
+    struck
 }
 
-fn look_over_index(t: &[u16], p: usize, v: u16, q: &[u16; 32], s: Sought) -> Look
+// Whether an index entry may cover or cut what lies in the sieve's box.
+fn may_meet(t: &[u16], p: usize, i: usize, v: u16, q: &[u16; 32]) -> bool
+    requires { ⌜ InTable (now t) p × (i < pageEntries) × IsSieve (now q) ⌝ }
+    ensures { λ r. ⌜ r ≡ touches (questionOf (now (q .entry))) (entryIn (now (t .entry)) p i .strongest) || leb v (entryIn (now (t .entry)) p i .weakest) ⌝ }
+{
+    sieve::strongest_touches(t, p, i, q) | (v <= pages::entry_weakest(t, p, i))
+}
+
+// The scan has a loop for either kind of page: one that tests the kind at each entry is slower.
+// Most entries are passed over, and then nothing is copied.
+pub fn scan_leaf(t: &[u16], p: usize, v: u16, q: &[u16; 32], s: Sought) -> Sought
     requires { ⌜ InTable (now t) p × IsSieve (now q) × Within (questionOf (now q)) (s .place) ⌝ }
-    ensures { λ r. ⌜ Looks (questionOf (now (q .entry))) 1 v (inUse (pageAt (now (t .entry)) p)) (soughtOf s) r ⌝ }
+    ensures { λ r. ⌜ soughtOf r ≡ scan 0 v (inUse (pageAt (now (t .entry)) p)) (soughtOf s) ⌝ }
 {
     let count = pages::in_use(t, p);
-    let mut struck = false;
     let mut found = s;
     let mut i = 0;
     while i < count {
-        struck = struck | struck_at(t, p, i, v, q);
-        found = meet_union(t, p, i, v, meet_strongest(t, p, i, v, q, found));
+        if sieve::place_touches(t, p, i, q) {
+            found = meet_place(t, p, i, v, q, found);
+        }
         i += 1;
     }
-    Look { struck, found }
+    found
 }
 
-// Page p, with n levels under it. A loop for either kind of page: one that tests the kind at each entry is slower.
-pub fn look_over(t: &[u16], p: usize, n: usize, v: u16, q: &[u16; 32], s: Sought) -> Look
+pub fn scan_index(t: &[u16], p: usize, v: u16, q: &[u16; 32], s: Sought) -> Sought
     requires { ⌜ InTable (now t) p × IsSieve (now q) × Within (questionOf (now q)) (s .place) ⌝ }
-    ensures { λ r. ⌜ Looks (questionOf (now (q .entry))) n v (inUse (pageAt (now (t .entry)) p)) (soughtOf s) r ⌝ }
+    ensures { λ r. ⌜ soughtOf r ≡ scan 1 v (inUse (pageAt (now (t .entry)) p)) (soughtOf s) ⌝ }
 {
-    if n == 0 {
-        return look_over_leaf(t, p, v, q, s);
+    let count = pages::in_use(t, p);
+    let mut found = s;
+    let mut i = 0;
+    while i < count {
+        if may_meet(t, p, i, v, q) {
+            found = meet_union(t, p, i, v, meet_strongest(t, p, i, v, q, found));
+        }
+        i += 1;
     }
-    look_over_index(t, p, v, q, s)
+    found
 }

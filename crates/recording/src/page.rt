@@ -4,10 +4,7 @@ use crate::table::used;
 use ground::Box;
 use pages::Entry;
 use pages::Page;
-ghost use mathlib.Core.List.{[], _∷_, _++_};
 ghost use mathlib.Core.Path.{_≡_};
-ghost use Prim.Native.Nat.{_<_, _≤_};
-ghost use Rattle.pages.specs.Layout.{pageEntries};
 ghost use Rattle.pages.specs.Summary.{inUse};
 ghost use Rattle.split.specs.Split.{pageFrom, without};
 ghost use Rattle.rules.specs.Recording.{leafEntry};
@@ -19,18 +16,6 @@ pub fn leaf_entry(b: Box, v: u16) -> Entry
     e.place = b;
     e.gust = v;
     e
-}
-
-// With one more entry.
-pub fn push(x: Page, e: Entry) -> Page
-    requires { ⌜ (x ≡ pageFrom (x .level) (inUse x)) × (x .count < pageEntries) ⌝ }
-    ensures { λ r. ⌜ r ≡ pageFrom (x .level) (inUse x ++ (e ∷ [])) ⌝ }
-{
-    let mut y = x;
-    let k = x.count as usize;
-    y.entries[k] = e;
-    y.count = x.count + 1;
-    y
 }
 
 // Without the entry at a place, closed up.

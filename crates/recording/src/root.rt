@@ -5,13 +5,13 @@ use crate::Walked;
 use crate::page::leaf_entry;
 use crate::strike::more_struck;
 use crate::table::blank_page;
-use crate::table::count_of;
-use crate::table::first_child;
+use crate::table::child_lying;
 use crate::table::level_of;
 use crate::table::load;
 use crate::table::release;
 use crate::table::store;
 use crate::table::summary;
+use crate::table::used_at;
 use crate::walk::walk_down;
 use ground::Box;
 use pages::FreePage;
@@ -21,8 +21,9 @@ ghost use mathlib.Core.List.{[], _∷_};
 ghost use mathlib.Core.Path.{_≡_};
 ghost use Rattle.split.specs.Split.{pageFrom};
 ghost use Prim.Native.Nat.{_+_, _<_};
-ghost use lib.ListN.{length, set};
-ghost use Rattle.pages.specs.Layout.{tableFits, pagesOf, freePage};
+ghost use lib.ListN.{length, getD, set};
+ghost use Rattle.pages.specs.Layout.{tableFits, pagesOf, zeroEntry, freePage};
+ghost use Rattle.pages.specs.Summary.{inUse};
 ghost use Rattle.wellformed.specs.WellFormed.{page};
 ghost use Rattle.rules.specs.Recording.{leafEntry, fromRoot, newRootAt, putRootRight, oneEntry, collapse};
 ghost use Rattle.pages.specs.Free.{lowestFree};
@@ -81,7 +82,14 @@ fn one_entry(t: &[u16], root: u16) -> bool
     requires { ⌜ tableFits (now t) ≡ true ⌝ }
     ensures { λ r. ⌜ r ≡ oneEntry (page (pagesOf (now (t .entry))) root) ⌝ }
 {
-    (2 <= level_of(t, root)) & (count_of(t, root) == 1)
+    (2 <= level_of(t, root)) & (used_at(t, root as usize) == 1)
+}
+
+fn first_child(t: &[u16], root: u16) -> u16
+    requires { ⌜ tableFits (now t) ≡ true ⌝ }
+    ensures { λ r. ⌜ r ≡ getD (inUse (page (pagesOf (now (t .entry))) root)) 0 zeroEntry .child ⌝ }
+{
+    child_lying(t, root as usize, 0)
 }
 
 fn free_root(t: &mut [u16], root: u16)

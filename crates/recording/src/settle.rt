@@ -1,6 +1,5 @@
 // Settling a page: it is stored, or split if it has nine entries.
 use crate::Became;
-use crate::page::push;
 use crate::page::take_out;
 use crate::table::child_lying;
 use crate::table::load;
@@ -8,7 +7,6 @@ use crate::table::put_at;
 use crate::table::release;
 use crate::table::store;
 use crate::table::summary;
-use crate::table::used;
 use crate::table::used_at;
 use pages::Entry;
 use pages::FreePage;
@@ -17,10 +15,11 @@ ghost use mathlib.Core.Bool.{true};
 ghost use mathlib.Core.List.{[], _∷_, _++_};
 ghost use mathlib.Core.Path.{_≡_};
 ghost use Prim.Native.Nat.{_≤_};
-ghost use lib.ListN.{getD, set};
-ghost use Rattle.pages.specs.Layout.{pageEntries, tableFits, pagesOf, zeroEntry};
+ghost use lib.ListN.{set};
+ghost use Rattle.pages.specs.Layout.{pageEntries, tableFits, pagesOf};
 ghost use Rattle.pages.specs.Summary.{inUse};
 ghost use Rattle.wellformed.specs.WellFormed.{page};
+ghost use Rattle.rules.specs.Recording.{Became.emptied};
 ghost use Rattle.recording.specs.PageSteps.{Tidy};
 ghost use Rattle.recording.specs.LyingSteps.{exactPage, settledAt};
 ghost use Rattle.recording.specs.SettleSteps.{Settles, settled, cameBack};
@@ -37,34 +36,12 @@ fn split_page(t: &mut [u16], p: usize, x: Page, e: Entry) -> Became
     let free = pages::lowest_free(t);
     match free {
         FreePage::At(q) => {
+            let second = q as u16;
             store(t, q, halves.second);
-            Became::Split(q as u16)
+            Became::Split(second)
         }
         FreePage::NoPage => Became::Stands,
     }
-}
-
-// With one entry more.
-pub fn settle_with(t: &mut [u16], p: usize, x: Page, e: Entry) -> Became
-    requires { ⌜ (tableFits (now t) ≡ true) × Tidy x (x .level) (inUse x) ⌝ }
-    ensures { λ r. ⌜ Settles (now (t .entry)) (now (t .exit)) r (settled (pagesOf (now (t .entry))) p (x .level) (inUse x ++ (e ∷ []))) ⌝ }
-{
-    if x.count < 8 {
-        store(t, p, push(x, e));
-        return Became::Stands;
-    }
-    split_page(t, p, x, e)
-}
-
-// The child at a place of a page by value; 0 if it has no such place.
-pub fn child_at(x: Page, i: usize) -> u16
-    ensures { λ r. ⌜ r ≡ getD (inUse x) i zeroEntry .child ⌝ }
-{
-    if used(x) <= i {
-        return 0;
-    }
-    let e = x.entries[i];
-    e.child
 }
 
 // The entry at place i made exact for the child as it now is, where the page lies.
@@ -92,6 +69,17 @@ pub fn append_at(t: &mut [u16], p: usize, e: Entry) -> Became
     split_page(t, p, load(t, p), e)
 }
 
+// The child at place i, left with no entry, is freed and its entry taken out; the record starts again at the root.
+fn let_go(t: &mut [u16], p: usize, i: usize) -> Became
+    requires { ⌜ tableFits (now t) ≡ true ⌝ }
+    ensures { λ r. ⌜ Settles (now (t .entry)) (now (t .exit)) r (cameBack emptied (pagesOf (now (t .entry))) p i) ⌝ }
+{
+    let x = load(t, p);
+    release(t, child_lying(t, p, i) as usize);
+    store(t, p, take_out(x, i));
+    Became::Again
+}
+
 // Coming back to page p from the child at place i, of which this became.
 pub fn come_back(t: &mut [u16], p: usize, i: usize, child: Became) -> Became
     requires { ⌜ (tableFits (now t) ≡ true) × TidyPage (page (pagesOf (now t)) p) ⌝ }
@@ -107,12 +95,7 @@ pub fn come_back(t: &mut [u16], p: usize, i: usize, child: Became) -> Became
             make_exact(t, p, i);
             append_at(t, p, e)
         }
-        Became::Emptied => {
-            let x = load(t, p);
-            release(t, child_at(x, i) as usize);
-            store(t, p, take_out(x, i));
-            Became::Again
-        }
+        Became::Emptied => let_go(t, p, i),
         Became::Again => {
             make_exact(t, p, i);
             Became::Again

@@ -1,7 +1,11 @@
 // Rule 1: striking. A struck entry frees every page under it, and the rest of its page closes up.
+use crate::look::some_struck;
 use crate::table::blank_page;
+use crate::table::load;
 use crate::table::release;
+use crate::table::store;
 use crate::table::used;
+use crate::table::used_at;
 use ground::Box;
 use pages::Entry;
 use pages::Page;
@@ -16,8 +20,9 @@ ghost use Rattle.pages.specs.Summary.{inUse};
 ghost use Rattle.split.specs.Split.{pageFrom};
 ghost use Rattle.wellformed.specs.WellFormed.{page, childOf};
 ghost use Rattle.rules.specs.Strike.{isStruck, rest, strike};
-ghost use Rattle.recording.specs.StrikeSteps.{Named, freeUnder, strikeIf};
+ghost use Rattle.recording.specs.StrikeSteps.{Named, freeUnder, strikeIf, strikePage};
 ghost use Rattle.recording.specs.Views.{mostStruck, Frees};
+ghost use Rattle.recording.specs.WalkSteps.{MayWalk};
 
 // The pages that a page's entries name. Held while they are freed, since a spoilt table may name the page itself.
 pub struct Children {
@@ -90,7 +95,7 @@ fn free_under(t: &mut [u16], n: usize, p: usize, struck: u32) -> u32
     sum
 }
 
-pub fn is_struck(b: Box, v: u16, e: Entry) -> bool
+fn is_struck(b: Box, v: u16, e: Entry) -> bool
     ensures { λ r. ⌜ r ≡ isStruck b v e ⌝ }
 {
     b.covers(e.place) & (e.gust <= v)
@@ -111,7 +116,7 @@ fn strike_if(t: &mut [u16], n: usize, b: Box, v: u16, e: Entry, struck: u32) -> 
 }
 
 // The struck entries of a page by value, which has n levels under it.
-pub fn strike(t: &mut [u16], n: usize, b: Box, v: u16, x: Page) -> u32
+fn strike(t: &mut [u16], n: usize, b: Box, v: u16, x: Page) -> u32
     requires { ⌜ tableFits (now t) ≡ true ⌝ }
     ensures { λ r. ⌜ Frees (now (t .entry)) (now (t .exit)) 0 r (strike n b v (pagesOf (now (t .entry))) (inUse x)) ⌝ }
 {
@@ -127,7 +132,7 @@ pub fn strike(t: &mut [u16], n: usize, b: Box, v: u16, x: Page) -> u32
 }
 
 // The rest of a page closes up in order.
-pub fn close_up(b: Box, v: u16, x: Page) -> Page
+fn close_up(b: Box, v: u16, x: Page) -> Page
     ensures { λ r. ⌜ r ≡ pageFrom (x .level) (rest b v (inUse x)) ⌝ }
 {
     let count = used(x);
@@ -145,4 +150,29 @@ pub fn close_up(b: Box, v: u16, x: Page) -> Page
     kept.level = x.level;
     kept.count = k as u16;
     kept
+}
+
+// Rule 1 at page p, which has n levels under it. It is held by value, since a spoilt table may name the page itself.
+fn strike_page(t: &mut [u16], n: usize, b: Box, v: u16, p: usize) -> u32
+    requires { ⌜ tableFits (now t) ≡ true ⌝ }
+    ensures { λ r. ⌜ Frees (now (t .entry)) (now (t .exit)) 0 r (strikePage n b v (pagesOf (now (t .entry))) p) ⌝ }
+{
+    let x = load(t, p);
+    let struck = strike(t, n, b, v, x);
+    store(t, p, close_up(b, v, x));
+    struck
+}
+
+// Only where the look sees an entry that may be struck: any other page is left as it lies.
+pub fn strike_at(t: &mut [u16], n: usize, v: u16, p: usize, b: Box, q: &[u16; 32]) -> u32
+    requires { ⌜ MayWalk (now t) (now q) b ⌝ }
+    ensures { λ r. ⌜ Frees (now (t .entry)) (now (t .exit)) 0 r (strikePage n b v (pagesOf (now (t .entry))) p) ⌝ }
+{
+    if used_at(t, p) == 0 {
+        return 0;
+    }
+    if some_struck(t, p, v, q) {
+        return strike_page(t, n, b, v, p);
+    }
+    0
 }

@@ -87,7 +87,7 @@ pub fn summary(t: &[u16], p: u16) -> Entry
     none
 }
 
-// What the root is asked for, where it lies: its level, its count and its first child.
+// The level of page p, where it lies.
 pub fn level_of(t: &[u16], p: u16) -> u16
     requires { ⌜ tableFits (now t) ≡ true ⌝ }
     ensures { λ r. ⌜ r ≡ page (pagesOf (now (t .entry))) p .level ⌝ }
@@ -95,28 +95,6 @@ pub fn level_of(t: &[u16], p: u16) -> u16
     let at = p as usize;
     if at < t.len() / Page::WORDS {
         return pages::level(t, at);
-    }
-    0
-}
-
-pub fn count_of(t: &[u16], p: u16) -> u16
-    requires { ⌜ tableFits (now t) ≡ true ⌝ }
-    ensures { λ r. ⌜ r ≡ page (pagesOf (now (t .entry))) p .count ⌝ }
-{
-    let at = p as usize;
-    if at < t.len() / Page::WORDS {
-        return pages::count(t, at);
-    }
-    0
-}
-
-pub fn first_child(t: &[u16], p: u16) -> u16
-    requires { ⌜ tableFits (now t) ≡ true ⌝ }
-    ensures { λ r. ⌜ r ≡ getD (page (pagesOf (now (t .entry))) p .entries) 0 zeroEntry .child ⌝ }
-{
-    let at = p as usize;
-    if at < t.len() / Page::WORDS {
-        return pages::entry_child(t, at, 0);
     }
     0
 }

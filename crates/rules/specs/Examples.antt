@@ -16,7 +16,7 @@ use Rattle.pages.specs.declared.Small.{Small}
 use Rattle.split.specs.Split.{halves, pageFrom, begin, seeds, places, pairs, pairsWith, mostWasteful, wastesMore, placeAll, place, takes, next, firstMost, growthsDiffer, growth as groupGrowth, secondTakes}
 use Rattle.rules.specs.Strike.{select, strikeAll, strikeOne, strike}
 use Rattle.rules.specs.Scan.{candidate, scanEntry, scan}
-use Rattle.rules.specs.Recording.{growth, goesBefore, leastGrown, choose, leafEntry, splitPage, settle, exactAt, comeBack, append, goDown, goOn, atPage, walkDown, fromRoot, collapse, Outcome.Kept, Outcome.Cut, Outcome.Covered, Answer, recorded}
+use Rattle.rules.specs.Recording.{growth, goesBefore, leastGrown, choose, leafEntry, splitPage, settle, exactAt, comeBack, append, goDown, goOn, atPage, walkDown, fromRoot, collapse, Outcome.Kept, Outcome.Cut, Answer, recorded}
 
 -- an empty book of 180 pages, and the answers of records one after another
 abbrev emptyPages : List Page
@@ -112,22 +112,3 @@ pub cut-from-the-index :
     }
 unfolding recorded fromRoot collapse walkDown atPage goOn goDown append comeBack exactAt settle splitPage choose leastGrown goesBefore growth scan scanEntry candidate strike strikeOne strikeAll select cut cutsOn coversOneEnd left leftOn xor covers touches join size summaryOf summary covering firstGreatest leastOf lowestFrom pageFrom
 cut-from-the-index = refl
-
--- P: the transcript's records: 1900-01-01 is day 7,305
-abbrev days : ℕ → ℕ → ℕ → ℕ → ℕ → ℕ → Box
-days e f n m d g = record { east = record { low = e; high = f }; north = record { low = n; high = m }; day = record { low = d; high = g } }
-
-pub transcript :
-    run emptyPages emptySmall (
-    record { box = days 10 19 10 19 7_305 7_314; gust = 250 }
-    ∷ record { box = days 10 29 10 19 7_305 7_314; gust = 250 }
-    ∷ record { box = days 15 35 10 19 7_305 7_314; gust = 250 }
-    ∷ record { box = days 12 18 12 18 7_306 7_307; gust = 100 }
-    ∷ [])
-    ≡ record {
-      answers = kept ∷ record { outcome = Kept; struck = 1 } ∷ record { outcome = Cut; struck = 0 } ∷ record { outcome = Covered; struck = 0 } ∷ [];
-      pages = pageFrom 1 (leafEntry (days 10 29 10 19 7_305 7_314) 250 ∷ leafEntry (days 30 35 10 19 7_305 7_314) 250 ∷ []) ∷ replicate 179 freePage;
-      small = record { root = 0; height = 1; accepted = 4; struck = 1; covered = 1 };
-    }
-unfolding run recorded fromRoot collapse walkDown atPage goOn goDown append comeBack exactAt settle splitPage choose leastGrown goesBefore growth scan scanEntry candidate strike strikeOne strikeAll select cut cutsOn coversOneEnd left leftOn xor covers touches join size summaryOf summary covering firstGreatest leastOf lowestFrom pageFrom
-transcript = refl

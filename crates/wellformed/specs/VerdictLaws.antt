@@ -124,3 +124,29 @@ damaged-table t s e = rw (not-true (tableFits t) e)
 pub damaged-root : (t : List ℕ) (s : Small) → not (rootStands (pagesOf t) s) ≡ true → Damaged ≡ checked t s
 unfolding checked
 damaged-root t s e = rw (fails (wellFormed t s) (λ w. true≢false (sym (parts t s w .root) ∙ not-true (rootStands (pagesOf t) s) e)))
+
+-- what a verdict tells of the book
+module _ (t : List ℕ) (s : Small) (k : Checked) (e : k ≡ checked t s) where
+  pub well-held : (n : ℕ) → k ≡ Held n → true ≡ wellFormed t s
+  unfolding checked
+  well-held n d = by-test (wellFormed t s) (sym e ∙ d)
+    where
+      by-test : (b : Bool) → cond b (Held (length (heldRecords (pagesOf t) s))) Damaged ≡ Held n → true ≡ b
+      by-test true h = refl
+      by-test false h = let z : _≡_ {A = ℕ} 0 1 = cc in absurd (omega arith)
+
+  pub well-damaged : k ≡ Damaged → false ≡ wellFormed t s
+  unfolding checked
+  well-damaged d = by-test (wellFormed t s) (sym e ∙ d)
+    where
+      by-test : (b : Bool) → cond b (Held (length (heldRecords (pagesOf t) s))) Damaged ≡ Damaged → false ≡ b
+      by-test true h = let z : _≡_ {A = ℕ} 0 1 = cc in absurd (omega arith)
+      by-test false h = refl
+
+  pub well-count : (n : ℕ) → k ≡ Held n → n ≡ length (heldRecords (pagesOf t) s)
+  unfolding checked
+  well-count n d =
+      let w : wellFormed t s ≡ true = sym (well-held n d) in
+      let c : Held n ≡ cond (wellFormed t s) (Held (length (heldRecords (pagesOf t) s))) Damaged = sym d ∙ e in
+      let h : Held n ≡ Held (length (heldRecords (pagesOf t) s)) = rw w at c in
+      cc

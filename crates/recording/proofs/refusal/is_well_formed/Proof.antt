@@ -1,5 +1,5 @@
 -- `recording::refusal::is_well_formed` meets its contract.
-use Rattle.recording.specs.RefusalSteps.{well-held, well-damaged}
+use Rattle.wellformed.specs.VerdictLaws.{well-held, well-damaged}
 use borrow.Author.Needs.{needs}
 use Rattle.recording.proofs.refusal.is_well_formed.Statement.{statement}
 use Rattle.recording.proofs.refusal.is_well_formed.Tie as tie
@@ -14,7 +14,7 @@ enum-told-2 : tie.Need-enum-told-2
 enum-told-2 c = search needs
 
 returns : tie.Need-returns
-returns c = well-held _ _ (c .before .before .check .result) _ (c .before .before .check .ensures) (c .enum-told .given .1)
+returns c = well-held _ _ (c .before .before .check .result) (c .before .before .check .ensures) _ (c .enum-told .given .1)
 
 returns-2 : tie.Need-returns-2
 returns-2 c = well-damaged _ _ (c .before .before .check .result) (c .before .before .check .ensures) (c .enum-told2 .given .1)

@@ -1,8 +1,9 @@
 -- `recording::settle::come_back` meets its contract.
-use Rattle.recording.specs.TableSteps.{still-fits}
+use mathlib.Core.Path.{_∙_}
+use borrow.Author.Needs.{needs}
 use Rattle.recording.specs.SettleSteps.{came-emptied}
 use Rattle.recording.specs.LyingSteps.{exact-tidy-there, came-standing-here, came-split-here, came-again-here}
-use borrow.Author.Needs.{needs}
+use Rattle.recording.specs.TableSteps.{still-fits}
 use Rattle.recording.proofs.settle.come_back.Statement.{statement}
 use Rattle.recording.proofs.settle.come_back.Tie as tie
 
@@ -10,16 +11,16 @@ enum-told : tie.Need-enum-told
 enum-told c = search needs
 
 make-exact-requires : tie.Need-make-exact-requires
-make-exact-requires c κs = search needs
+make-exact-requires c κs = c .before .before .before .before .pre
 
 enum-known-child : tie.Need-enum-known-child
 enum-known-child c = search needs
 
 summary-requires : tie.Need-summary-requires
-summary-requires c κs = search needs
+summary-requires c κs = c .before .before .before .before .before .pre .0
 
 make-exact-requires-2 : tie.Need-make-exact-requires-2
-make-exact-requires-2 c κs = search needs
+make-exact-requires-2 c κs = c .before .before .before .before .before .before .before .pre
 
 append-at-requires : tie.Need-append-at-requires
 append-at-requires c κs = (still-fits (c .before .before .before .before .before .before .before .before .before .before .before .args .t .now) (c .before .before .before .make-exact2 .last .0) (c .before .before .before .before .before .before .before .before .before .before .before .pre .0) (c .before .before .before .make-exact2 .ensures .same-length), exact-tidy-there (c .before .before .before .before .before .before .before .before .before .before .before .args .t .now) (c .before .before .before .make-exact2 .last .0) (c .before .before .before .before .before .before .before .before .before .before .before .args .p) (c .before .before .before .before .before .before .before .before .before .before .before .args .i) (c .before .before .before .before .before .before .before .before .before .before .before .pre .1) (c .before .before .before .make-exact2 .ensures))
@@ -27,50 +28,35 @@ append-at-requires c κs = (still-fits (c .before .before .before .before .befor
 enum-told-2 : tie.Need-enum-told-2
 enum-told-2 c = search needs
 
-load-requires : tie.Need-load-requires
-load-requires c κs = search needs
-
-child-at-requires : tie.Need-child-at-requires
-child-at-requires c κs = search needs
-
-cast-release : tie.Need-cast-release
-cast-release c = search needs
-
-release-requires : tie.Need-release-requires
-release-requires c κs = search needs
-
-take-out-requires : tie.Need-take-out-requires
-take-out-requires c κs = search needs
-
-store-requires : tie.Need-store-requires
-store-requires c κs = still-fits (c .before .before .before .before .before .before .before .before .before .before .before .before .args .t .now) (c .before .before .before .before .release .last .0) (c .before .before .before .before .before .before .before .before .before .before .before .before .pre .0) (c .before .before .before .before .release .ensures .same-length)
+let-go-requires : tie.Need-let-go-requires
+let-go-requires c κs = c .before .before .before .before .pre .0
 
 enum-told-3 : tie.Need-enum-told-3
 enum-told-3 c = search needs
 
 make-exact-requires-3 : tie.Need-make-exact-requires-3
-make-exact-requires-3 c κs = search needs
+make-exact-requires-3 c κs = c .before .before .before .before .pre
 
 same-length : tie.Need-same-length
-same-length c = search needs
+same-length c = c .before .before .make-exact .ensures .same-length
 
 returns : tie.Need-returns
 returns c = came-standing-here (c .before .before .before .before .before .before .before .args .t .now) (c .before .before .before .before .before .before .before .args .p) (c .before .before .before .before .before .before .before .pre .1) _ (c .before .before .before .before .before .before .before .args .i) _ (c .before .before .before .before .enum-told .given .1) (c .before .before .make-exact .ensures)
 
 same-length-2 : tie.Need-same-length-2
-same-length-2 c = search needs
+same-length-2 c = c .before .before .append-at .ensures .same-length ∙ c .before .before .before .before .before .before .make-exact2 .ensures .same-length
 
 returns-2 : tie.Need-returns-2
 returns-2 c = came-split-here (c .before .before .before .before .before .before .before .before .before .before .before .before .before .before .args .t .now) _ _ (c .before .before .before .before .before .before .before .before .before .before .before .before .before .before .args .p) (c .before .before .before .before .before .before .before .before .before .before .before .before .before .before .args .i) _ _ (c .before .before .before .before .before .before .before .before .summary .result) _ (c .before .before .before .before .before .before .before .before .before .before .before .before .before .before .pre .1) (c .before .before .before .before .before .before .before .before .before .before .before .child .given .1) (c .before .before .before .before .before .before .before .before .summary .ensures) (c .before .before .before .before .before .before .make-exact2 .ensures) (c .before .before .append-at .ensures)
 
 same-length-3 : tie.Need-same-length-3
-same-length-3 c = search needs
+same-length-3 c = c .before .before .let-go .ensures .same-length
 
 returns-3 : tie.Need-returns-3
-returns-3 c = came-emptied _ _ _ _ _ _ _ (c .before .before .before .before .before .before .before .before .before .before .load .result) _ (c .before .before .before .before .before .before .before .before .before .before .before .before .enum-told2 .given .1) (c .before .before .before .before .before .before .before .before .before .before .load .ensures) (c .before .before .before .before .before .before .before .before .child-at .ensures) (c .before .before .before .before .before .before .before .release .ensures) (c .before .before .before .take-out .ensures) (c .before .before .store .ensures)
+returns-3 c = came-emptied _ _ _ _ _ _ (c .before .before .before .before .enum-told2 .given .1) (c .before .before .let-go .ensures)
 
 same-length-4 : tie.Need-same-length-4
-same-length-4 c = search needs
+same-length-4 c = c .before .before .make-exact3 .ensures .same-length
 
 returns-4 : tie.Need-returns-4
 returns-4 c = came-again-here (c .before .before .before .before .before .before .before .args .t .now) (c .before .before .before .before .before .before .before .args .p) (c .before .before .before .before .before .before .before .pre .1) _ (c .before .before .before .before .before .before .before .args .i) _ (c .before .before .before .before .enum-told3 .given .1) (c .before .before .make-exact3 .ensures)
@@ -86,12 +72,7 @@ come-back-spec =
     make-exact-requires-2
     append-at-requires
     enum-told-2
-    load-requires
-    child-at-requires
-    cast-release
-    release-requires
-    take-out-requires
-    store-requires
+    let-go-requires
     enum-told-3
     make-exact-requires-3
     same-length

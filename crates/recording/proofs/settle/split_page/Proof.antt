@@ -21,8 +21,8 @@ enum-known-free c = search needs
 store-requires-2 : tie.Need-store-requires-2
 store-requires-2 c κs = still-fits (c .before .before .before .before .before .before .before .before .before .before .before .before .args .t .now) (c .before .before .before .before .before .before .before .before .store .last .0) (c .before .before .before .before .before .before .before .before .before .before .before .before .pre .0) (c .before .before .before .before .before .before .before .before .store .ensures .same-length)
 
-cast-t17 : tie.Need-cast-t17
-cast-t17 c = record { fits = omega (arith, free-number (c .before .before .before .before .before .before .before .before .before .before .before .store .last .0) (c .before .before .before .before .before .free .given .0 .0) (c .before .before .before .before .before .before .before .lowest-free .result) (still-fits (c .before .before .before .before .before .before .before .before .before .before .before .before .before .before .before .args .t .now) (c .before .before .before .before .before .before .before .before .before .before .before .store .last .0) (c .before .before .before .before .before .before .before .before .before .before .before .before .before .before .before .pre .0) (c .before .before .before .before .before .before .before .before .before .before .before .store .ensures .same-length)) (c .before .before .before .before .before .before .before .lowest-free .ensures) (c .before .before .before .before .before .free .given .1)) }
+cast-second : tie.Need-cast-second
+cast-second c = record { fits = omega (arith, free-number (c .before .before .before .before .before .before .before .store .last .0) (c .before .free .given .0 .0) (c .before .before .before .lowest-free .result) (still-fits (c .before .before .before .before .before .before .before .before .before .before .before .args .t .now) (c .before .before .before .before .before .before .before .store .last .0) (c .before .before .before .before .before .before .before .before .before .before .before .pre .0) (c .before .before .before .before .before .before .before .store .ensures .same-length)) (c .before .before .before .lowest-free .ensures) (c .before .free .given .1)) }
 
 enum-told : tie.Need-enum-told
 enum-told c = search needs
@@ -47,8 +47,8 @@ split-page-spec =
     store-requires
     lowest-free-requires
     enum-known-free
+    cast-second
     store-requires-2
-    cast-t17
     enum-told
     same-length
     returns
