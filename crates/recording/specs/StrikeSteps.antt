@@ -268,10 +268,6 @@ unfolding restTo
 rest-struck b v i es e l d q =
     rw (add-one i, take-suc es i zeroEntry l, ← d) (select-more (λ x. not (isStruck b v x)) (take i es) e ∙ ap (λ t. rest b v (take i es) ++ consIf (not t) e []) q ∙ append-nil (rest b v (take i es)))
 
-pub rest-few : (b : Box) (v i : ℕ) (es : List Entry) → i ≤ length es → length (restTo b v es i) ≤ i
-unfolding restTo
-rest-few b v i es l = omega (arith, select-most (λ x. not (isStruck b v x)) (take i es), length-take i es)
-
 pub rest-all : (b : Box) (v i : ℕ) (es : List Entry) → length es ≤ i → restTo b v es i ≡ rest b v es
 unfolding restTo
 rest-all b v i es l = ap (rest b v) (take-all i es l)
