@@ -4,7 +4,7 @@ use bench::twice::shortest;
 use bench::{question, related, Record, Seed, Spread, DENSE, SPARSE};
 use std::collections::BTreeMap;
 use std::fs::File;
-use std::io::{Read, Write};
+use std::io::{BufRead, BufReader, Read, Write};
 use std::path::Path;
 use std::process::{Command, Stdio};
 use std::time::Instant;
@@ -240,6 +240,54 @@ fn speed() {
     println!("200,000 lines, half questions: {ours:.3} s, second program {theirs:.3} s, ratio {ratio:.2}");
 }
 
+/// A clerk at a keyboard reads each answer before the next line is typed.
+fn at_once() {
+    let mut child = Command::new(PROVED)
+        .stdin(Stdio::piped())
+        .stdout(Stdio::piped())
+        .spawn()
+        .expect("it starts");
+    let mut input = child.stdin.take().expect("it is piped");
+    let mut output = BufReader::new(child.stdout.take().expect("it is piped"));
+    for (line, answer) in [
+        ("add 1 2 3 4 1900-01-01 1900-01-02 5", "kept struck 0\n"),
+        ("ask 2 9 4 9 1900-01-02 1900-02-02", "gust 5 pages 1\n"),
+        ("asks", "refused 9\n"),
+    ] {
+        // The end of a line alone calls for its answer, wherever the bytes before it were cut.
+        let (first, rest) = line.split_at(3);
+        for piece in [first, rest, "\n"] {
+            input.write_all(piece.as_bytes()).expect("it reads on");
+        }
+        let mut said = String::new();
+        output.read_line(&mut said).expect("it answers");
+        assert_eq!(said, answer, "to {line}");
+    }
+    drop(input);
+    assert!(child.wait().expect("it ends").success());
+}
+
+/// An input that cannot be read and an output that cannot be written end it cleanly.
+fn ends_cleanly() {
+    let folder = File::open(env!("CARGO_MANIFEST_DIR")).expect("it is there");
+    let done = Command::new(PROVED)
+        .stdin(folder)
+        .output()
+        .expect("it runs");
+    assert!(done.status.success() && done.stdout.is_empty());
+    // Opened for reading alone.
+    let unwritable = File::open(PROVED).expect("it is there");
+    let mut child = Command::new(PROVED)
+        .stdin(Stdio::piped())
+        .stdout(unwritable)
+        .spawn()
+        .expect("it starts");
+    let mut input = child.stdin.take().expect("it is piped");
+    input.write_all(b"count\n").expect("it reads");
+    drop(input);
+    assert!(child.wait().expect("it ends").success());
+}
+
 const KINDS: [&str; 10] = [
     "kept",
     "cut",
@@ -258,6 +306,8 @@ fn main() {
         eprintln!("target/bin/gust is not there: 'rt check gust' builds it.");
         std::process::exit(1);
     }
+    at_once();
+    ends_cleanly();
     let mut seen: BTreeMap<String, usize> = BTreeMap::new();
     for number in 0..300 {
         let seed = &mut Seed::of(number);
