@@ -1,6 +1,6 @@
 //! Times the proved library beside the second program, in one process and in turn. Prints one table.
 use bench::twice::{five, record_sound};
-use bench::{book, question, Record, Seed, SPARSE};
+use bench::{book, question, Record, Seed, Spread, DENSE, SPARSE};
 use second::{GustBox, SmallRecord};
 use std::hint::black_box;
 use std::time::{Duration, Instant};
@@ -46,6 +46,7 @@ fn beside(mut ours: impl FnMut() -> Duration, mut theirs: impl FnMut() -> Durati
 
 /// A book in both programs' words, with the records that it accepted.
 struct Book {
+    spread: &'static Spread,
     pages: usize,
     table: Vec<u16>,
     small: [u32; 5],
@@ -54,10 +55,11 @@ struct Book {
 }
 
 impl Book {
-    fn new(pages: usize, most: usize) -> Self {
-        let (table, record, accepted) = book(pages, most, &SPARSE, &mut Seed::of(9));
+    fn new(pages: usize, most: usize, spread: &'static Spread) -> Self {
+        let (table, record, accepted) = book(pages, most, spread, &mut Seed::of(9));
         let small = five(&record);
         Book {
+            spread,
             pages,
             table,
             small,
@@ -181,10 +183,10 @@ impl Book {
     }
 
     /// Several runs of records, each from the same book, so that no processor learns them by heart.
-    fn recording(&self, with_pass: bool) {
+    fn recording(&self, with_pass: bool, remark: &str) {
         let seed = &mut Seed::of(77);
         let many = 20;
-        let a_run = |_| (0..many).map(|_| SPARSE.record(seed)).collect();
+        let a_run = |_| (0..many).map(|_| self.spread.record(seed)).collect();
         let runs: Vec<Vec<Record>> = (0..16).map(a_run).collect();
         let (mut ours, mut theirs) = (self.table.clone(), self.table.clone());
         let (mut next, mut other) = (runs.iter().cycle(), runs.iter().cycle());
@@ -207,7 +209,7 @@ impl Book {
             },
         );
         let name = ["record, the book known to be sound", "record"][usize::from(with_pass)];
-        self.row(name, many, &both, "");
+        self.row(name, many, &both, remark);
     }
 }
 
@@ -267,23 +269,31 @@ fn main() {
     println!("| call | pages | records | proved | second program | ratio | |");
     println!("|---|---|---|---|---|---|---|");
     for pages in [180, 4_096] {
-        let fit = Book::new(pages, usize::MAX).accepted.len();
         // As many as fit, but for the room that the timed records need.
+        let room = |spread| Book::new(pages, usize::MAX, spread).accepted.len() - 60;
+        let fit = room(&SPARSE);
         let sizes = [100, 1_000, 10_000].into_iter().filter(|many| *many < fit);
-        for many in sizes.chain([fit - 60]) {
+        for many in sizes.chain([fit]) {
             let (p, r) = (grouped(pages), grouped(many));
             eprintln!("timing a book of {p} pages and {r} records");
-            let book = Book::new(pages, many);
+            let book = Book::new(pages, many, &SPARSE);
             if many == 100 {
                 book.clearing();
             }
-            book.recording(true);
-            book.recording(false);
+            book.recording(true, "");
+            book.recording(false, "");
             book.asking(1, "0.0001%");
             book.asking(10_000, "1%");
             book.asking(500_000, "50%");
             book.counting();
             book.saving_and_loading();
+        }
+        // Records that lie over each other strike, cut and cover.
+        let full = room(&DENSE);
+        for many in [full / 2, full] {
+            let book = Book::new(pages, many, &DENSE);
+            book.recording(true, "dense records");
+            book.recording(false, "dense records");
         }
     }
 }
