@@ -1,6 +1,6 @@
 -- Laws of free pages and of the empty book.
-use mathlib.Core.Bool.{Bool, true, false, cond, false≢true}
-use mathlib.Core.List.{List, [], _∷_, _++_, append-assoc}
+use mathlib.Core.Bool.{Bool, true, false, cond}
+use mathlib.Core.List.{List, [], _∷_, _++_}
 use mathlib.Core.Path.{_≡_, refl, sym, ap, _∙_, subst}
 use Prim.Native.Nat.{ℕ, zero, suc, _+_, _*_, _-_, _≤_, _<_}
 use native.Mathlib.Nat.{not-suc-le-zero, le-of-suc-le-suc, le-refl}
@@ -8,13 +8,12 @@ use native.Mathlib.Numerals.{add-one}
 use native.Mathlib.Omega.{arith}
 use borrow.Author.Tests.{eq-eqb, ne-eqb, eqb-true, le-leb, leb-true}
 use lib.Dec.{leb, eqb}
-use lib.ListN.{length, getD, take, drop, set, replicate, length-set, length-replicate, length-drop, drop-of-length-le, replicate-append-replicate}
+use lib.ListN.{length, getD, drop, set, replicate, length-set, length-replicate, drop-of-length-le, replicate-append-replicate}
 use lib.Seq.{drop-cons, drop-at}
 use Rattle.ground.specs.Tests.{same-test}
 use Rattle.pages.specs.declared.Page.{Page}
-use Rattle.pages.specs.declared.FreePage.{FreePage}
 use Rattle.pages.specs.declared.FreePage.the-variants.{At, NoPage}
-use Rattle.pages.specs.Layout.{pageWords, pageEntries, pagesIn, tableFits, pageOf, pageAt, levelAt, wordsOfEntries, wordsOfEntry, wordsOfBox, wordsOfPage, cutPages, pagesOf, freePage}
+use Rattle.pages.specs.Layout.{pageWords, pagesIn, tableFits, pageOf, levelAt, wordsOfEntries, wordsOfEntry, wordsOfBox, wordsOfPage, cutPages, pagesOf, freePage}
 use Rattle.pages.specs.Facts.{fitting}
 use Rattle.pages.specs.LayoutLaws.{fits-alike, level-in, page-read, pages-length, pages-at, free-words}
 use Rattle.pages.specs.Free.{isFree, lowestFrom, lowestFree, countFree, freeCount, emptyLeaf, emptyTable}
@@ -145,6 +144,18 @@ lowest-on t p h e =
 pub lowest-end : (t : List ℕ) (p : ℕ) → pagesIn t ≤ p → lowestFrom p (drop p (pagesOf t)) ≡ NoPage
 unfolding lowestFrom
 lowest-end t p h = rw (drop-of-length-le (pagesOf t) {i = p} (omega (arith, pages-length t))) refl
+
+-- where no page below n is free, the search may begin there
+abbrev pub NoneFree : List Page → ℕ → Type 0
+NoneFree xs n = (k : ℕ) → k < n → (k < length xs) × (isFree (getD xs k freePage) ≡ false)
+
+pub lowest-past : (xs : List Page) (n : ℕ) → NoneFree xs n → lowestFrom n (drop n xs) ≡ lowestFree xs
+unfolding lowestFrom
+lowest-past xs zero h = refl
+lowest-past xs (suc n) h =
+    let here = h n (omega arith) in
+    sym (rw (drop-cons xs n freePage (here .0)) (ap (λ (b : Bool). cond b (At n) (lowestFrom (suc n) (drop (suc n) xs))) (here .1)))
+    ∙ lowest-past xs n (λ k l. h k (omega arith))
 
 -- counting from the high end
 pub count-down : (t : List ℕ) (p left rest n : ℕ) → 0 < p → p ≤ pagesIn t → 0 < left → rest ≡ left - cond (eqb (levelAt t (p - 1)) 0) 1 0

@@ -6,14 +6,22 @@ ghost use mathlib.Core.Bool.{cond};
 ghost use mathlib.Core.Path.{_≡_};
 ghost use Prim.Native.Nat.{_-_, _<_};
 ghost use lib.Dec.{leb, eqb};
+ghost use lib.ListN.{drop};
 ghost use Rattle.pages.specs.Layout.{pagesOf};
-ghost use Rattle.pages.specs.Free.{lowestFree, freeCount, emptyTable};
+ghost use Rattle.pages.specs.Free.{lowestFrom, lowestFree, freeCount, emptyTable};
 
 pub fn lowest_free(t: &[u16]) -> FreePage
     ensures { λ r. ⌜ r ≡ lowestFree (pagesOf (now (t .entry))) ⌝ }
 {
+    lowest_free_from(t, 0)
+}
+
+// The lowest free page from page `from` on: for a caller who knows that no page below it is free.
+pub fn lowest_free_from(t: &[u16], from: usize) -> FreePage
+    ensures { λ r. ⌜ r ≡ lowestFrom from (drop from (pagesOf (now (t .entry)))) ⌝ }
+{
     let pages = t.len() / Page::WORDS;
-    let mut p = 0;
+    let mut p = from;
     while p < pages {
         if t[p * Page::WORDS] == 0 {
             return FreePage::At(p);

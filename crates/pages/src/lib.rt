@@ -9,6 +9,7 @@ mod writing;
 pub use free::clear;
 pub use free::free_at_least;
 pub use free::lowest_free;
+pub use free::lowest_free_from;
 use ground::Box;
 pub use reading::box_at;
 pub use reading::count;

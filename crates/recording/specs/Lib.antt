@@ -10,6 +10,7 @@ pub mod LookSteps
 pub mod WithinLaws
 pub mod TidyLaws
 pub mod LyingSteps
+pub mod LowSteps
 pub mod WalkSteps
 pub mod RootSteps
 pub mod RecordSteps

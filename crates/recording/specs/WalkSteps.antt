@@ -21,6 +21,8 @@ use Rattle.recording.specs.declared.Became as code-became
 use Rattle.recording.specs.declared.Became.the-variants as case
 use Rattle.recording.specs.declared.Sought as code-sought
 use Rattle.recording.specs.declared.Walked as code-walked
+use Rattle.recording.specs.LowSteps.{Low, walk-low}
+use Rattle.pages.specs.FreeLaws.{NoneFree}
 use Rattle.recording.specs.LookSteps.{Within, Sees, scan-index}
 use Rattle.recording.specs.LyingSteps.{settledAt, leafSettled, settled-over, none-to-strike}
 use Rattle.rules.specs.Strike.{select, struckOf, rest, strike}
@@ -354,8 +356,12 @@ module _ (n v p k used : ℕ) (t u q : List ℕ) (s : code-sought.Sought) (m : M
       may-go-down = record { fits = still-fits t u (m .fits) (step .same-length); tidied = step .tidied (m .tidied); sieve = m .sieve; within = step .within (questionOf q) (m .within) }
 
       module _ (w : List ℕ) (lower : code-walked.Walked) (g : Walks u w lower (walkDown (n - 1) v (pagesOf u) c (soughtOf found))) where
-        pub may-come-back : (tableFits w ≡ true) × TidyPage (page (pagesOf w) p)
-        may-come-back = (still-fits u w (may-go-down .fits) (g .same-length), subst Tidied (sym (g .pages-are)) (walk-tidied (n - 1) v (pagesOf u) c (soughtOf found) (may-go-down .tidied)) p)
+        pub may-come-back : (tableFits w ≡ true) × TidyPage (page (pagesOf w) p) × Low (becameOf (lower .became)) (pagesOf w)
+        may-come-back = (
+          still-fits u w (may-go-down .fits) (g .same-length),
+          subst Tidied (sym (g .pages-are)) (walk-tidied (n - 1) v (pagesOf u) c (soughtOf found) (may-go-down .tidied)) p,
+          λ q e. subst (λ (ps : List Page). NoneFree ps q) (sym (g .pages-are)) (walk-low (n - 1) v (pagesOf u) c (soughtOf found) q (sym (g .became-is) ∙ e)),
+        )
 
         pub came-back : (x : List ℕ) (o : code-became.Became) (r : ℕ) → Settles w x o (cameBack (becameOf (lower .became)) (pagesOf w) p i) → r ≡ min (k + lower .struck) mostStruck → Walks t x (record { became = o; sought = lower .sought; struck = r }) (walkDown n v (pagesOf t) p (soughtOf s))
         came-back x o r h j = walked-back n v p c i r t u w x (soughtOf s) (record { next = Down c i; sought = found; struck = k }) lower o step refl g h j

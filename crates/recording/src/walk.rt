@@ -31,7 +31,7 @@ fn append_left(t: &mut [u16], v: u16, p: usize, found: Sought) -> Became
     if found.covered {
         return Became::Stands;
     }
-    append_at(t, p, leaf_entry(found.place, v))
+    append_at(t, p, leaf_entry(found.place, v), 0)
 }
 
 // All of the walk at a leaf.

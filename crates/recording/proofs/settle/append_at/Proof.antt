@@ -26,7 +26,7 @@ load-requires : tie.Need-load-requires
 load-requires c κs = search needs
 
 split-page-requires : tie.Need-split-page-requires
-split-page-requires c κs = (c .before .before .before .before .before .before .before .pre .0, full-page _ _ (c .before .before .before .before .before .before .before .pre .1) (c .before .before .before .before .used-at .result) _ (c .before .before .before .before .used-at .ensures) (c .before .before .before .if1 .left) (c .load .ensures) .0, full-page _ _ (c .before .before .before .before .before .before .before .pre .1) (c .before .before .before .before .used-at .result) _ (c .before .before .before .before .used-at .ensures) (c .before .before .before .if1 .left) (c .load .ensures) .1)
+split-page-requires c κs = (c .before .before .before .before .before .before .before .pre .0, full-page _ _ (c .before .before .before .before .before .before .before .pre .1) (c .before .before .before .before .used-at .result) _ (c .before .before .before .before .used-at .ensures) (c .before .before .before .if1 .left) (c .load .ensures) .0, full-page _ _ (c .before .before .before .before .before .before .before .pre .1) (c .before .before .before .before .used-at .result) _ (c .before .before .before .before .used-at .ensures) (c .before .before .before .if1 .left) (c .load .ensures) .1, c .before .before .before .before .before .before .before .pre .2)
 
 same-length-2 : tie.Need-same-length-2
 same-length-2 c = search needs

@@ -1,8 +1,11 @@
 -- `recording::settle::come_back` meets its contract.
-use mathlib.Core.Path.{_∙_}
+use mathlib.Core.Path.{ap, _∙_}
+use Rattle.recording.specs.LowSteps.{low-but}
+use Rattle.recording.specs.Views.{becameOf}
 use borrow.Author.Needs.{needs}
 use Rattle.recording.specs.SettleSteps.{came-emptied}
-use Rattle.recording.specs.LyingSteps.{exact-tidy-there, came-standing-here, came-split-here, came-again-here}
+use Rattle.pages.specs.Layout.{pagesOf}
+use Rattle.recording.specs.LyingSteps.{exactPage, exact-tidy-there, came-standing-here, came-split-here, came-again-here}
 use Rattle.recording.specs.TableSteps.{still-fits}
 use Rattle.recording.proofs.settle.come_back.Statement.{statement}
 use Rattle.recording.proofs.settle.come_back.Tie as tie
@@ -11,7 +14,7 @@ enum-told : tie.Need-enum-told
 enum-told c = search needs
 
 make-exact-requires : tie.Need-make-exact-requires
-make-exact-requires c κs = c .before .before .before .before .pre
+make-exact-requires c κs = (c .before .before .before .before .pre .0, c .before .before .before .before .pre .1)
 
 enum-known-child : tie.Need-enum-known-child
 enum-known-child c = search needs
@@ -20,10 +23,13 @@ summary-requires : tie.Need-summary-requires
 summary-requires c κs = c .before .before .before .before .before .pre .0
 
 make-exact-requires-2 : tie.Need-make-exact-requires-2
-make-exact-requires-2 c κs = c .before .before .before .before .before .before .before .pre
+make-exact-requires-2 c κs = (c .before .before .before .before .before .before .before .pre .0, c .before .before .before .before .before .before .before .pre .1)
+
+cast-append-at : tie.Need-cast-append-at
+cast-append-at c = search needs
 
 append-at-requires : tie.Need-append-at-requires
-append-at-requires c κs = (still-fits (c .before .before .before .before .before .before .before .before .before .before .before .args .t .now) (c .before .before .before .make-exact2 .last .0) (c .before .before .before .before .before .before .before .before .before .before .before .pre .0) (c .before .before .before .make-exact2 .ensures .same-length), exact-tidy-there (c .before .before .before .before .before .before .before .before .before .before .before .args .t .now) (c .before .before .before .make-exact2 .last .0) (c .before .before .before .before .before .before .before .before .before .before .before .args .p) (c .before .before .before .before .before .before .before .before .before .before .before .args .i) (c .before .before .before .before .before .before .before .before .before .before .before .pre .1) (c .before .before .before .make-exact2 .ensures))
+append-at-requires c κs = (still-fits (c .before .before .before .before .before .before .before .before .before .before .before .args .t .now) (c .before .before .before .make-exact2 .last .0) (c .before .before .before .before .before .before .before .before .before .before .before .pre .0) (c .before .before .before .make-exact2 .ensures .same-length), exact-tidy-there (c .before .before .before .before .before .before .before .before .before .before .before .args .t .now) (c .before .before .before .make-exact2 .last .0) (c .before .before .before .before .before .before .before .before .before .before .before .args .p) (c .before .before .before .before .before .before .before .before .before .before .before .args .i) (c .before .before .before .before .before .before .before .before .before .before .before .pre .1) (c .before .before .before .make-exact2 .ensures), low-but (pagesOf (c .before .before .before .before .before .before .before .before .before .before .before .args .t .now)) (pagesOf (c .before .before .before .make-exact2 .last .0)) (c .before .before .before .before .before .before .before .before .before .before .before .args .p) _ _ (exactPage (pagesOf (c .before .before .before .before .before .before .before .before .before .before .before .args .t .now)) (c .before .before .before .before .before .before .before .before .before .before .before .args .p) (c .before .before .before .before .before .before .before .before .before .before .before .args .i)) (c .before .before .before .make-exact2 .ensures .pages-are) (ap becameOf (c .before .before .before .before .before .before .before .before .child .given .1)) (c .before .before .before .before .before .before .before .before .before .before .before .pre .2))
 
 enum-told-2 : tie.Need-enum-told-2
 enum-told-2 c = search needs
@@ -35,7 +41,7 @@ enum-told-3 : tie.Need-enum-told-3
 enum-told-3 c = search needs
 
 make-exact-requires-3 : tie.Need-make-exact-requires-3
-make-exact-requires-3 c κs = c .before .before .before .before .pre
+make-exact-requires-3 c κs = (c .before .before .before .before .pre .0, c .before .before .before .before .pre .1)
 
 same-length : tie.Need-same-length
 same-length c = c .before .before .make-exact .ensures .same-length
@@ -70,6 +76,7 @@ come-back-spec =
     enum-known-child
     summary-requires
     make-exact-requires-2
+    cast-append-at
     append-at-requires
     enum-told-2
     let-go-requires

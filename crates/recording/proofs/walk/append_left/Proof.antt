@@ -1,5 +1,6 @@
 -- `recording::walk::append_left` meets its contract.
 use Rattle.recording.specs.LyingSteps.{nothing-appended, one-appended}
+use Rattle.recording.specs.LowSteps.{none-but-none}
 use Rattle.rules.specs.Recording.{leafEntry}
 use Rattle.recording.proofs.walk.append_left.Statement.{statement}
 use Rattle.recording.proofs.walk.append_left.Tie as tie
@@ -11,7 +12,7 @@ leaf-entry-requires : tie.Need-leaf-entry-requires
 leaf-entry-requires c κs = tt
 
 append-at-requires : tie.Need-append-at-requires
-append-at-requires c κs = c .before .before .before .before .pre
+append-at-requires c κs = (c .before .before .before .before .pre .0, c .before .before .before .before .pre .1, none-but-none _ _)
 
 same-length : tie.Need-same-length
 same-length c = c .before .before .append-at .ensures .same-length
