@@ -15,6 +15,12 @@ fn tell(ending: Ending) {
                 b"gust: the input could not be read to its end; what came before is answered\n",
             );
         }
+        Ending::TurnsSpent => {
+            io::write_all(
+                STDERR_FILENO,
+                b"gust: no more is read; what came before is answered\n",
+            );
+        }
         Ending::NotWritten => {
             io::write_all(
                 STDERR_FILENO,

@@ -16,7 +16,7 @@ use Rattle.serving.specs.Outside.{Happened}
 use Rattle.serving.specs.declared.Came.{Came}
 use Rattle.serving.specs.declared.Turn.{Turn}
 use Rattle.serving.specs.declared.Ending.{Ending}
-use Rattle.serving.specs.declared.Ending.the-variants.{InputEnded, ReadFailed, NotWritten}
+use Rattle.serving.specs.declared.Ending.the-variants.{InputEnded, ReadFailed, NotWritten, TurnsSpent}
 
 -- Before the first turn: a table of pages, an empty line, room for a chunk of some bytes, and for the answers to it.
 pub record MayServe (t line input out : List ℕ) : Type 0 where
@@ -47,9 +47,22 @@ abbrev pub allHanded : Ending → Bool
 allHanded InputEnded = true
 allHanded ReadFailed = true
 allHanded NotWritten = false
+allHanded TurnsSpent = true
+
+-- Whether they end because a read left nothing.
+abbrev pub readOut : Ending → Bool
+readOut InputEnded = true
+readOut ReadFailed = true
+readOut NotWritten = false
+readOut TurnsSpent = false
+
+-- The last read left nothing, as it does at the input's end and where it fails.
+pub record EndsEmpty (chunks : List (List ℕ)) : Type 0 where
+  pub before : List (List ℕ)
+  pub last-empty : chunks ≡ before ++ ([] ∷ [])
 
 -- Turns: chunks came in, one a turn; what is left is what they leave; the writer took the answers to them in order, and all of them or those before the rest.
-pub record Served (c : Counter) (n : ℕ) (t line out : List ℕ) (s : State) (all : Bool) : Type 0 where
+pub record Served (c : Counter) (n : ℕ) (t line out : List ℕ) (s : State) (all to-end : Bool) : Type 0 where
   pub chunks : List (List ℕ)
   pub handed : List ℕ
   pub rest : List ℕ
@@ -57,6 +70,7 @@ pub record Served (c : Counter) (n : ℕ) (t line out : List ℕ) (s : State) (a
   pub left : counterOf t line out s ≡ leftBy chunks c
   pub in-order : handed ++ rest ≡ answersTo chunks c
   pub no-rest : all ≡ true → rest ≡ []
+  pub ends : to-end ≡ true → EndsEmpty chunks
   pub ready : Ready n t line out s
 
 -- The last answer, which is kept back if an earlier one was not taken.
@@ -67,13 +81,14 @@ pub record LastHanded (e : Ending) (bytes : List ℕ) (r : Ending) : Type 0 wher
   pub in-order : handed ++ rest ≡ bytes
   pub kept-back : allHanded e ≡ false → handed ≡ []
   pub no-rest : allHanded r ≡ true → (allHanded e ≡ true) × (rest ≡ [])
+  pub same-end : readOut r ≡ true → readOut e ≡ true
 
 -- The empty book on a table.
 abbrev pub emptied : List ℕ → Book
 emptied t = record { table = emptyTable t; small = emptySmall }
 
 -- A whole run, on a table that it clears: all that the writer took is, byte for byte, the answers to the lines of all that was read, in order;
--- nothing is missing at their end unless the writer took no more; and the table holds the book that those lines leave.
+-- nothing is missing at their end unless the writer took no more, and it was read until a read left nothing; and the table holds the book that those lines leave.
 pub record Ran (t u : List ℕ) (r : Ending) : Type 0 where
   pub chunks : List (List ℕ)
   pub handed : List ℕ
@@ -81,4 +96,5 @@ pub record Ran (t u : List ℕ) (r : Ending) : Type 0 where
   pub happened : Happened chunks handed
   pub answers : handed ++ rest ≡ served (linesOf (whole chunks)) (emptied t)
   pub no-rest : allHanded r ≡ true → rest ≡ []
+  pub ends : readOut r ≡ true → EndsEmpty chunks
   pub book : u ≡ bookServed (linesOf (whole chunks)) (emptied t) .table

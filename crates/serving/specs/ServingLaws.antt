@@ -4,7 +4,7 @@ use mathlib.Core.Bool.{Bool, true, false, _&&_}
 use mathlib.Core.List.{List, [], _∷_, _++_, append-assoc, append-nil}
 use mathlib.Core.Path.{_≡_, refl, sym, ap, _∙_, subst}
 use native.Mathlib.Omega.{arith}
-use borrow.Author.Tests.{leb-true}
+use borrow.Author.Tests.{leb-true, ltb-false}
 use lib.Dec.{leb, ltb}
 use lib.IntN.{ℤ}
 use lib.ListN.{length, take, drop, length-take, length-drop, take-append-drop, drop-of-length-le}
@@ -22,7 +22,7 @@ use Rattle.libc.specs.Io.{Moved}
 use Rattle.pages.specs.Free.{emptySmall, emptyTable}
 use Rattle.pages.specs.Layout.{tableFits}
 use Rattle.serving.specs.Outside.{moved, Happened, a-read, a-write, nothing-yet, and-then}
-use Rattle.serving.specs.Serving.{MayServe, CameIn, HandedOver, Turned, allHanded, Served, LastHanded, emptied, Ran}
+use Rattle.serving.specs.Serving.{MayServe, CameIn, HandedOver, Turned, allHanded, readOut, Served, LastHanded, emptied, Ran}
 use Rattle.serving.specs.declared.Came.{Came}
 use Rattle.serving.specs.declared.Ending.{Ending}
 use Rattle.serving.specs.declared.Ending.the-variants.{NotWritten}
@@ -61,11 +61,11 @@ never-both b e f = let z : _≡_ {A = ℕ} 0 1 = cc in absurd (omega arith)
 module _ (e : Ending) (bytes : List ℕ) where
   pub last-kept-back : allHanded e ≡ false → LastHanded e bytes e
   last-kept-back f =
-      record { handed = []; rest = bytes; happened = nothing-yet; in-order = refl; kept-back = λ g. refl; no-rest = λ g. never-both (allHanded e) g f }
+      record { handed = []; rest = bytes; happened = nothing-yet; in-order = refl; kept-back = λ g. refl; no-rest = λ g. never-both (allHanded e) g f; same-end = λ g. g }
 
   module _ (n : ℕ) (h : HandedOver bytes n) (f : allHanded e ≡ true) where
-    handed-so : (r : Ending) → (allHanded r ≡ true → length bytes ≤ n) → LastHanded e bytes r
-    handed-so r g =
+    handed-so : (r : Ending) → (allHanded r ≡ true → length bytes ≤ n) → (readOut r ≡ true → readOut e ≡ true) → LastHanded e bytes r
+    handed-so r g same =
         record {
           handed = take n bytes;
           rest = drop n bytes;
@@ -73,13 +73,14 @@ module _ (e : Ending) (bytes : List ℕ) where
           in-order = take-append-drop n bytes;
           kept-back = λ k. never-both (allHanded e) f k;
           no-rest = λ k. (f, drop-of-length-le bytes {i = n} (g k));
+          same-end = same;
         }
 
     pub last-short : LastHanded e bytes NotWritten
-    last-short = handed-so NotWritten (λ g. never-both false g refl)
+    last-short = handed-so NotWritten (λ g. never-both false g refl) (λ g. never-both false g refl)
 
     pub last-whole : length bytes ≤ n → LastHanded e bytes e
-    last-whole less = handed-so e (λ g. less)
+    last-whole less = handed-so e (λ g. less) (λ g. g)
 
 -- a chunk read, fed, and its answers handed over
 pub turned :
@@ -110,14 +111,14 @@ next-chunk n input t line out u next buffer s r w less h v e =
     (fed-ready n input t line out u next buffer s r (omega (arith, h .room, shown-out (fed input (counterOf t line out s)) out u next buffer r v .1)) (fewer (length input) n t line out s less h) v)
 
 -- before the first turn
-pub none-served : (n : ℕ) (t line out : List ℕ) (s : State) → Ready n t line out s → Served (counterOf t line out s) n t line out s true
+pub none-served : (n : ℕ) (t line out : List ℕ) (s : State) → Ready n t line out s → Served (counterOf t line out s) n t line out s true false
 unfolding leftBy answersTo
 none-served n t line out s h =
-    record { chunks = []; handed = []; rest = []; happened = nothing-yet; left = refl; in-order = refl; no-rest = λ e. refl; ready = h }
+    record { chunks = []; handed = []; rest = []; happened = nothing-yet; left = refl; in-order = refl; no-rest = λ e. refl; ends = λ e. never-both false e refl; ready = h }
 
 -- a turn more
 module _
-    (c : Counter) (n : ℕ) (t line out : List ℕ) (s : State) (h : Served c n t line out s true) (input u next buffer : List ℕ) (r : Turn) (w : State)
+    (c : Counter) (n : ℕ) (t line out : List ℕ) (s : State) (h : Served c n t line out s true false) (input u next buffer : List ℕ) (r : Turn) (w : State)
     (less : length input ≤ n) (v : Turned (counterOf t line out s) out input u next buffer r) (e : w ≡ record { small = r .state .small; held = r .state .held; printed = 0 })
   where
     chunk : List ℕ
@@ -135,9 +136,9 @@ module _
         ∙ (λ i. before i ++ fed chunk (h .left i) .out)
         ∙ sym (answers-to-more (h .chunks) chunk c)
 
-    served-so : (all : Bool) → (all ≡ true → r .state .printed ≤ r .handed) → Served c n u next buffer w all
+    served-so : (all to-end : Bool) → (all ≡ true → r .state .printed ≤ r .handed) → (to-end ≡ true → r .came ≡ 0) → Served c n u next buffer w all to-end
     unfolding said chunk
-    served-so all f =
+    served-so all to-end f k =
         let x : Counter = fed chunk (counterOf t line out s) in
         record {
           chunks = h .chunks ++ (chunk ∷ []);
@@ -151,14 +152,23 @@ module _
               ∙ sym (left-by-more (h .chunks) chunk c);
           in-order = answered;
           no-rest = λ g. drop-of-length-le said {i = r .handed} (omega (arith, f g, v .shows .past));
+          ends = λ g. record { before = h .chunks; last-empty = ap (λ (m : ℕ). h .chunks ++ (take m input ∷ [])) (k g) };
           ready = next-chunk n chunk t line out u next buffer s (r .state) w (omega (arith, length-take (r .came) input)) (h .ready) (v .shows) e;
         }
 
-    pub served-on : (leb (r .state .printed) (r .handed) && ltb 0 (r .came)) ≡ true → Served c n u next buffer w true
-    served-on g = served-so true (λ k. leb-true (r .state .printed) (r .handed) (both (leb (r .state .printed) (r .handed)) (ltb 0 (r .came)) g .0))
+    all-taken : leb (r .state .printed) (r .handed) ≡ true → r .state .printed ≤ r .handed
+    all-taken = leb-true (r .state .printed) (r .handed)
 
-    pub served-last : (e₂ : Ending) → allHanded e₂ ≡ leb (r .state .printed) (r .handed) → Served c n u next buffer w (allHanded e₂)
-    served-last e₂ f = served-so (allHanded e₂) (λ k. leb-true (r .state .printed) (r .handed) (sym f ∙ k))
+    pub served-on : (leb (r .state .printed) (r .handed) && ltb 0 (r .came)) ≡ true → Served c n u next buffer w true false
+    served-on g = served-so true false (λ k. all-taken (both (leb (r .state .printed) (r .handed)) (ltb 0 (r .came)) g .0)) (λ k. never-both false k refl)
+
+    nothing-came : (leb (r .state .printed) (r .handed) && ltb 0 (r .came)) ≡ false → leb (r .state .printed) (r .handed) ≡ true → r .came ≡ 0
+    nothing-came stop f = let less = ltb-false 0 (r .came) (sym (ap (λ (b : Bool). b && ltb 0 (r .came)) f) ∙ stop) in omega arith
+
+    pub served-last :
+        (l : Ending) → (leb (r .state .printed) (r .handed) && ltb 0 (r .came)) ≡ false → allHanded l ≡ leb (r .state .printed) (r .handed) → readOut l ≡ leb (r .state .printed) (r .handed)
+        → Served c n u next buffer w (allHanded l) (readOut l)
+    served-last l stop f g = served-so (allHanded l) (readOut l) (λ k. all-taken (sym f ∙ k)) (λ k. nothing-came stop (sym g ∙ k))
 
 -- the first turn's book
 pub may-begin : (t line input out u : List ℕ) (s : State) → MayServe t line input out → Opens t u s → Ready (length input) u line out s
@@ -179,7 +189,7 @@ kept-order xs ys vs ws false f g = rw (g refl, append-nil xs, append-assoc xs ys
 -- the whole run
 module _ (t line input out u : List ℕ) (s : State) (may : MayServe t line input out) (opens : Opens t u s) where
   pub ran :
-      (t₂ line₂ out₂ : List ℕ) (s₂ : State) (e : Ending) → Served (counterOf u line out s) (length input) t₂ line₂ out₂ s₂ (allHanded e)
+      (t₂ line₂ out₂ : List ℕ) (s₂ : State) (e : Ending) → Served (counterOf u line out s) (length input) t₂ line₂ out₂ s₂ (allHanded e) (readOut e)
       → (t₃ line₃ out₃ : List ℕ) (s₃ : State) → Shows (finished (counterOf t₂ line₂ out₂ s₂)) out₂ t₃ line₃ out₃ s₃
       → (r : Ending) → LastHanded e (take (s₃ .printed) out₃) r → Ran t t₃ r
   ran t₂ line₂ out₂ s₂ e h t₃ line₃ out₃ s₃ v r l =
@@ -199,6 +209,7 @@ module _ (t line input out u : List ℕ) (s : State) (may : MayServe t line inpu
             ∙ (λ i. (h .in-order ∙ ap (answersTo (h .chunks)) first) i ++ (l .in-order ∙ ap (λ (x : Counter). x .out) end) i)
             ∙ whatever-chunks (h .chunks) k;
         no-rest = λ g. λ i. h .no-rest (l .no-rest g .0) i ++ l .no-rest g .1 i;
+        ends = λ g. h .ends (l .same-end g);
         book = ap (λ (x : Counter). x .book .table) end ∙ ap (λ (b : Book). b .table) (whatever-chunks-book (h .chunks) k);
       }
 

@@ -8,7 +8,7 @@ ghost use mathlib.Core.Path.{_≡_};
 ghost use lib.Dec.{leb, ltb};
 ghost use lib.ListN.{length};
 ghost use Rattle.counter.specs.FeedSteps.{counterOf, Ready};
-ghost use Rattle.serving.specs.Serving.{MayServe, CameIn, HandedOver, Turned, allHanded, Served, LastHanded, Ran};
+ghost use Rattle.serving.specs.Serving.{MayServe, CameIn, HandedOver, Turned, allHanded, readOut, Served, LastHanded, Ran};
 
 // How a program's turns end.
 pub enum Ending {
@@ -18,6 +18,8 @@ pub enum Ending {
     ReadFailed,
     // The writer took no more: answers are missing from there on.
     NotWritten,
+    // The turns are used up, which no run lives to see. Everything that came is answered.
+    TurnsSpent,
 }
 
 // What a read left at the start of its buffer: no bytes at the input's end, or if it failed.
@@ -48,6 +50,7 @@ struct Stop {
     ending: Ending,
 }
 
+// Reads once.
 fn take_in(input: &mut [u8]) -> Came
     ensures { λ r. ⌜ CameIn (now (input .exit)) r ⌝ }
 {
@@ -101,7 +104,7 @@ fn goes_on(turn: Turn) -> bool
 
 // How the turns end if this is the last.
 fn ends_by(turn: Turn) -> Ending
-    ensures { λ r. ⌜ allHanded r ≡ leb (turn .state .printed) (turn .handed) ⌝ }
+    ensures { λ r. ⌜ (allHanded r ≡ leb (turn .state .printed) (turn .handed)) × (readOut r ≡ leb (turn .state .printed) (turn .handed)) ⌝ }
 {
     if turn.handed < turn.state.printed {
         return Ending::NotWritten;
@@ -115,7 +118,7 @@ fn ends_by(turn: Turn) -> Ending
 // A proved loop has to end, so it counts its turns down, from a number that no run uses up.
 fn serve_all(t: &mut [u16], line: &mut [u8], s: State, input: &mut [u8], out: &mut [u8]) -> Stop
     requires { ⌜ Ready (length (now input)) (now t) (now line) (now out) s ⌝ }
-    ensures { λ r. ⌜ Served (counterOf (now (t .entry)) (now (line .entry)) (now (out .entry)) s) (length (now (input .entry))) (now (t .exit)) (now (line .exit)) (now (out .exit)) (r .state) (allHanded (r .ending)) ⌝ }
+    ensures { λ r. ⌜ Served (counterOf (now (t .entry)) (now (line .entry)) (now (out .entry)) s) (length (now (input .entry))) (now (t .exit)) (now (line .exit)) (now (out .exit)) (r .state) (allHanded (r .ending)) (readOut (r .ending)) ⌝ }
 {
     let mut state = s;
     let mut turns = u64::MAX;
@@ -133,7 +136,7 @@ fn serve_all(t: &mut [u16], line: &mut [u8], s: State, input: &mut [u8], out: &m
     }
     Stop {
         state,
-        ending: Ending::InputEnded,
+        ending: Ending::TurnsSpent,
     }
 }
 
@@ -144,6 +147,7 @@ fn all_handed(ending: Ending) -> bool
         Ending::InputEnded => true,
         Ending::ReadFailed => true,
         Ending::NotWritten => false,
+        Ending::TurnsSpent => true,
     }
 }
 

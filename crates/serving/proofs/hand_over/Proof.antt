@@ -52,7 +52,9 @@ loop-again c =
     let counted = c .before .count in
     let wrote = c .before .before .before .write in
     let so-far = c .before .before .before .before .before .before .loop in
-    handed-more (c .before .before .before .before .before .before .before .before .args .bytes .now) so-far.done counted.result wrote.result _ so-far.inv wrote.ensures (toZ-ofZ {w = w64} (record { sfits = wrote.ok })) (counted .ensures .1) (counted .ensures .0 .0)
+    let bytes = c .before .before .before .before .before .before .before .before .args .bytes .now in
+    let back = toZ-ofZ {w = w64} (record { sfits = wrote.ok }) in
+    handed-more bytes so-far.done counted.result wrote.result _ so-far.inv wrote.ensures back (counted .ensures .1) (counted .ensures .0 .0)
 
 add-done : tie.Need-add-done Inv-loop μ-loop
 add-done c = let more = loop-again c in omega (arith, more .within)

@@ -11,10 +11,14 @@ open-requires : tie.Need-open-requires
 open-requires c κs = search needs
 
 serve-all-requires : tie.Need-serve-all-requires
-serve-all-requires c κs = may-begin _ _ _ _ _ _ (c .before .before .before .before .before .before .before .before .before .before .before .before .pre) (c .before .before .before .before .before .before .«open» .ensures)
+serve-all-requires c κs =
+    let opening = c .before .before .before .before .before .before in
+    may-begin _ _ _ _ _ _ (opening .before .before .before .before .before .before .pre) (opening .«open» .ensures)
 
 finish-requires : tie.Need-finish-requires
-finish-requires c κs = fewer _ _ _ _ _ _ (c .before .before .before .before .before .before .before .before .before .before .before .before .before .before .before .before .before .before .before .before .before .before .before .before .pre .some) (c .before .before .before .before .before .before .before .before .before .before .before .serve-all .ensures .ready)
+finish-requires c κs =
+    let turns = c .before .before .before .before .before .before .before .before .before .before .before in
+    fewer _ _ _ _ _ _ (turns .before .before .before .before .before .before .before .before .before .before .before .before .before .pre .some) (turns .serve-all .ensures .ready)
 
 slice-reshare-prefix-hand-last : tie.Need-slice-reshare-prefix-hand-last
 slice-reshare-prefix-hand-last c = let last = c .before .before .before .before .before .before .finish in shown-out _ _ _ _ _ last.result last.ensures .0
@@ -26,23 +30,31 @@ hand-last-requires : tie.Need-hand-last-requires
 hand-last-requires c κs = search needs
 
 same-length : tie.Need-same-length
-same-length c = c .before .before .before .before .before .before .before .t3 .given ∙ c .before .before .before .before .before .before .before .before .before .before .before .before .before .before .before .before .before .before .before .t2 .given ∙ c .before .before .before .before .before .before .before .before .before .before .before .before .before .before .before .before .before .before .before .before .before .before .before .before .before .before .t .given
+same-length c =
+    let last = c .before .before .before .before .before .before .before in
+    let turns = last .before .before .before .before .before .before .before .before .before .before .before .before in
+    last .t3 .given ∙ turns .t2 .given ∙ turns .before .before .before .before .before .before .before .t .given
 
 same-length-2 : tie.Need-same-length-2
-same-length-2 c = c .before .before .before .before .before .line2 .given ∙ c .before .before .before .before .before .before .before .before .before .before .before .before .before .before .before .before .before .line .given
+same-length-2 c =
+    let last = c .before .before .before .before .before in
+    last .line2 .given ∙ last .before .before .before .before .before .before .before .before .before .before .before .before .line .given
 
 same-length-3 : tie.Need-same-length-3
 same-length-3 c = c .before .before .before .before .before .before .before .before .before .before .before .before .before .before .before .input .given
 
 same-length-4 : tie.Need-same-length-4
-same-length-4 c = c .before .before .before .out2 .given ∙ c .before .before .before .before .before .before .before .before .before .before .before .before .before .out .given
+same-length-4 c = let last = c .before .before .before in last .out2 .given ∙ last .before .before .before .before .before .before .before .before .before .before .out .given
 
 returns : tie.Need-returns
 returns c =
-    let from = c .before .before .before .before .before .before .before .before .before .before .before .before .before .before .before .before .before .before .before .before .before .before .before .before .before .before .before .before .before .before .before .before .before in
-    let opened = c .before .before .before .before .before .before .before .before .before .before .before .before .before .before .before .before .before .before .before .before .before .before .before .before .before .before .before .«open» in
-    let stop = c .before .before .before .before .before .before .before .before .before .before .before .before .before .before .before .before .before .before .before .before .serve-all in
-    let last = c .before .before .before .before .before .before .before .before .finish in
+    let ending = c .before .before .before .before .before .before .before .before in
+    let turns = ending .before .before .before .before .before .before .before .before .before .before .before .before in
+    let opening = turns .before .before .before .before .before .before .before in
+    let from = opening .before .before .before .before .before .before in
+    let opened = opening .«open» in
+    let stop = turns .serve-all in
+    let last = ending .finish in
     ran (from .args .t .now) (from .args .line .now) (from .args .input .now) (from .args .out .now) (opened .last .0) opened.result from.pre opened.ensures
     (stop .last .0) (stop .last .1 .0) (stop .last .1 .1 .1 .1 .0) (stop .result .state) (stop .result .ending) stop.ensures
     (last .last .0) (last .last .1 .0) (last .last .1 .1 .1 .0) last.result last.ensures (c .hand-last .result) (c .hand-last .ensures)

@@ -1,8 +1,8 @@
 -- `serving::serve_all` meets its contract.
 use borrow.Author.Needs.{needs}
-use borrow.Author.Tests.{not-false}
+use borrow.Author.Tests.{not-true, not-false}
 use native.Mathlib.Omega.{arith}
-use mathlib.Core.Bool.{true}
+use mathlib.Core.Bool.{true, false}
 use mathlib.Core.Path.{_≡_, refl, sym, _∙_}
 use lib.ListN.{length}
 use Rattle.counter.specs.FeedSteps.{counterOf}
@@ -12,7 +12,12 @@ use Rattle.serving.proofs.serve_all.Statement.{statement}
 use Rattle.serving.proofs.serve_all.Tie as tie
 
 abbrev Inv-loop : tie.InvT-loop
-Inv-loop t₀ line₀ input₀ out₀ state₀ turns₀ t line input out state turns = Served (counterOf t₀ line₀ out₀ state₀) (length input₀) t line out state true × (length t ≡ length t₀) × (length line ≡ length line₀) × (length input ≡ length input₀) × (length out ≡ length out₀)
+Inv-loop t₀ line₀ input₀ out₀ state₀ turns₀ t line input out state turns =
+    Served (counterOf t₀ line₀ out₀ state₀) (length input₀) t line out state true false
+    × (length t ≡ length t₀)
+    × (length line ≡ length line₀)
+    × (length input ≡ length input₀)
+    × (length out ≡ length out₀)
 
 abbrev μ-loop : tie.MeasureT-loop
 μ-loop t₀ line₀ input₀ out₀ state₀ turns₀ t line input out state turns = turns
@@ -33,23 +38,36 @@ ends-by-requires : tie.Need-ends-by-requires Inv-loop μ-loop
 ends-by-requires c κs = search needs
 
 same-length : tie.Need-same-length Inv-loop μ-loop
-same-length c = c .before .before .before .before .before .before .before .before .before .before .before .before .t .given ∙ c .before .before .before .before .before .before .before .before .before .before .before .before .before .before .before .before .before .before .before .loop .inv .1
+same-length c =
+    let kept = c .before .before .before .before .before .before .before .before .before .before .before .before in
+    kept .t .given ∙ kept .before .before .before .before .before .before .before .loop .inv .1
 
 same-length-2 : tie.Need-same-length-2 Inv-loop μ-loop
-same-length-2 c = c .before .before .before .before .before .before .before .before .before .before .line .given ∙ c .before .before .before .before .before .before .before .before .before .before .before .before .before .before .before .before .before .before .before .loop .inv .2
+same-length-2 c =
+    let kept = c .before .before .before .before .before .before .before .before .before .before in
+    kept .line .given ∙ kept .before .before .before .before .before .before .before .before .before .loop .inv .2
 
 same-length-3 : tie.Need-same-length-3 Inv-loop μ-loop
-same-length-3 c = c .before .before .before .before .before .before .before .before .input .given ∙ c .before .before .before .before .before .before .before .before .before .before .before .before .before .before .before .before .before .before .before .loop .inv .3
+same-length-3 c =
+    let kept = c .before .before .before .before .before .before .before .before in
+    kept .input .given ∙ kept .before .before .before .before .before .before .before .before .before .before .before .loop .inv .3
 
 same-length-4 : tie.Need-same-length-4 Inv-loop μ-loop
-same-length-4 c = c .before .before .before .before .before .before .out .given ∙ c .before .before .before .before .before .before .before .before .before .before .before .before .before .before .before .before .before .before .before .loop .inv .4
+same-length-4 c =
+    let kept = c .before .before .before .before .before .before in
+    kept .out .given ∙ kept .before .before .before .before .before .before .before .before .before .before .before .before .before .loop .inv .4
 
 returns : tie.Need-returns Inv-loop μ-loop
 returns c =
-    let before = c .before .before .before .before .before .before .before .before .before .before .before .before .before .before .before .before .before .before .before .loop in
-    let turn = c .before .before .before .before .before .before .before .before .before .before .before .before .before .serve-some in
+    let turning = c .before .before .before .before .before .before .before .before .before .before .before .before .before in
+    let before = turning .before .before .before .before .before .before .loop in
+    let turn = turning .serve-some in
     let less = c .before .before .before .before .before .before .before .before .input .given ∙ before .inv .3 in
-    served-last _ _ _ _ _ _ (before .inv .0) _ _ _ _ turn.result _ (omega (arith, less)) turn.ensures (c .before .before .before .written .ensures) (c .ends-by .result) (c .ends-by .ensures)
+    let written = c .before .before .before .written in
+    let going = c .before .before .goes-on in
+    let stop = sym going.ensures ∙ not-true going.result (c .before .if1 .taken) in
+    served-last _ _ _ _ _ _ (before .inv .0) _ _ _ _ turn.result _ (omega (arith, less)) turn.ensures written.ensures
+    (c .ends-by .result) stop (c .ends-by .ensures .0) (c .ends-by .ensures .1)
 
 sub-turns : tie.Need-sub-turns Inv-loop μ-loop
 sub-turns c = omega arith
@@ -59,11 +77,14 @@ loop-less c = omega arith
 
 loop-again : tie.Need-loop-again Inv-loop μ-loop
 loop-again c =
-    let before = c .before .before .before .before .before .before .before .before .before .before .before .before .before .before .before .before .before .before .loop in
-    let turn = c .before .before .before .before .before .before .before .before .before .before .before .before .serve-some in
+    let turning = c .before .before .before .before .before .before .before .before .before .before .before .before in
+    let before = turning .before .before .before .before .before .before .loop in
+    let turn = turning .serve-some in
+    let written = c .before .before .written in
     let less = c .before .before .before .before .before .before .before .input .given ∙ before .inv .3 in
-    let on = sym (c .before .goes-on .ensures) ∙ not-false (c .before .goes-on .result) (c .if1 .left) in (
-      served-on _ _ _ _ _ _ (before .inv .0) _ _ _ _ turn.result _ (omega (arith, less)) turn.ensures (c .before .before .written .ensures) on,
+    let going = c .before .goes-on in
+    let on = sym going.ensures ∙ not-false going.result (c .if1 .left) in (
+      served-on _ _ _ _ _ _ (before .inv .0) _ _ _ _ turn.result _ (omega (arith, less)) turn.ensures written.ensures on,
       c .before .before .before .before .before .before .before .before .before .before .before .t .given ∙ before .inv .1,
       c .before .before .before .before .before .before .before .before .before .line .given ∙ before .inv .2,
       less,

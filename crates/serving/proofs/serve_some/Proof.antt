@@ -21,7 +21,8 @@ slice-aggregate-feed c = sym (length-take-le _ _ (c .before .before .before .bef
 feed-requires : tie.Need-feed-requires
 feed-requires c κs =
     let came = c .before .before .before .before .before .before .take-in in
-    fewer _ _ _ _ _ _ (omega (arith, length-take (came .result .count) (came .last .0), c .before .before .before .before .before .input .given)) (c .before .before .before .before .before .before .before .before .before .before .before .before .pre)
+    let kept = c .before .before .before .before .before .input .given in
+    fewer _ _ _ _ _ _ (omega (arith, length-take (came .result .count) (came .last .0), kept)) (c .before .before .before .before .before .before .before .before .before .before .before .before .pre)
 
 slice-reshare-prefix-hand-over : tie.Need-slice-reshare-prefix-hand-over
 slice-reshare-prefix-hand-over c = let fed = c .before .before .before .before .before .before .feed in shown-out _ _ _ _ _ fed.result fed.ensures .0
@@ -46,10 +47,13 @@ same-length-4 c = search needs
 
 returns : tie.Need-returns
 returns c =
-    let came = c .before .before .before .before .before .before .before .before .before .before .before .before .before .before .before .take-in in
-    let fed = c .before .before .before .before .before .before .before .before .feed in
-    let from = c .before .before .before .before .before .before .before .before .before .before .before .before .before .before .before .before .before .before .before .before .before .args in
-    turned (from .t .now) (from .line .now) (from .out .now) from.s (came .last .0) came.result came.ensures (fed .last .0) (fed .last .1 .0) (fed .last .1 .1 .1 .1 .0) fed.result fed.ensures (c .hand-over .result) (c .hand-over .ensures)
+    let feeding = c .before .before .before .before .before .before .before .before in
+    let taking = feeding .before .before .before .before .before .before .before in
+    let from = taking .before .before .before .before .before .before .args in
+    let came = taking .take-in in
+    let fed = feeding .feed in
+    turned (from .t .now) (from .line .now) (from .out .now) from.s (came .last .0) came.result came.ensures (fed .last .0) (fed .last .1 .0) (fed .last .1 .1 .1 .1 .0)
+    fed.result fed.ensures (c .hand-over .result) (c .hand-over .ensures)
 
 pub serve-some-spec : {M : Type 1} → statement M
 serve-some-spec =

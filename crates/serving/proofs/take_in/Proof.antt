@@ -18,7 +18,10 @@ same-length c = search needs
 returns : tie.Need-returns
 returns c =
     let read = c .before .before .before .before .read in
-    came-in (c .before .before .before .before .before .before .before .args .input .now) (read .last .1 .0) read.result _ _ read.ensures (c .before .before .before .input .given) (toZ-ofZ {w = w64} (record { sfits = read.ok })) (c .count .ensures .1) (c .count .ensures .0 .0)
+    let before = c .before .before .before .before .before .before .before .args .input .now in
+    let kept = c .before .before .before .input .given in
+    let back = toZ-ofZ {w = w64} (record { sfits = read.ok }) in
+    came-in before (read .last .1 .0) read.result _ _ read.ensures kept back (c .count .ensures .1) (c .count .ensures .0 .0)
 
 pub take-in-spec : {M : Type 1} → statement M
 take-in-spec = tie.close (tie.spec read-requires count-requires same-length returns)
