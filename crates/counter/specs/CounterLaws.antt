@@ -158,9 +158,9 @@ pub lines-good :
 lines-good input t e =
     let k : Book = record { table = emptyTable t; small = emptySmall } in
     let cs = callsIn (linesOf input) in
-    (ap (λ c. c .book) (line-by-line input k) ∙ served-calls (linesOf input) k ∙ sym (run-book cs (record { book = k; list = [] })), any-run-from-empty cs t e)
+    (ap (λ c. c .book) (line-by-line input k) ∙ served-calls (linesOf input) k ∙ sym (run-book cs (record { book = k; list = [] })), any-run-from-empty cs t e .last)
 
 -- a line leaves a well-formed book well-formed
 pub line-sound : (l : Line) (k : Book) → wellFormed (k .table) (k .small) ≡ true → wellFormed (bookAfter l k .table) (bookAfter l k .small) ≡ true
 line-sound l k w =
-    subst (λ (x : Book). wellFormed (x .table) (x .small) ≡ true) (run-book (callsOf l) (record { book = k; list = held k })) (any-run (callsOf l) k w .well-formed)
+    subst (λ (x : Book). wellFormed (x .table) (x .small) ≡ true) (run-book (callsOf l) (record { book = k; list = held k })) (any-run (callsOf l) k w .last .well-formed)
