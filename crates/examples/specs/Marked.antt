@@ -1,10 +1,11 @@
 -- Document 01's examples marked P, in one list: each is a theorem, by computation. The transcript is at the end.
 use Prim.Native.Nat.{ℕ}
 use mathlib.Core.Bool.{xor, true}
-use mathlib.Core.List.{List, [], _∷_, flatMap}
-use mathlib.Core.Path.{_≡_, refl}
+use mathlib.Core.List.{List, [], _∷_, flatMap, map}
+use mathlib.Core.Path.{_≡_, refl, ap}
 use lib.ListN.{replicate}
-use Rattle.asking.specs.Asking.{asked, raised, searchRecord, searchOne, inOrder, mayOpen, searchOpened, searchPage, searchBook, answered as askedBy}
+use Rattle.asking.specs.Asking.{asked, raised, step, follow, searchEntry, searchRecord, searchOne, inOrder, mayOpen, searchOpened, searchPage, searchBook, answered as askedBy}
+use Rattle.asking.specs.declared.Asked.{Asked}
 use Rattle.asking.specs.declared.Asked.the-variants.{Nothing, Gust}
 use Rattle.ground.specs.Boxes.{join, size, covers, touches, legal}
 use Rattle.ground.specs.Cutting.{cut, cutsOn, coversOneEnd, left, leftOn}
@@ -17,19 +18,17 @@ use Rattle.pages.specs.declared.Entry.{Entry}
 use Rattle.pages.specs.declared.Small.{Small}
 use Rattle.split.specs.Split.{pageFrom}
 use Rattle.wellformed.specs.WellFormed.{everyBelow, times, children, walk, leafEntries, heldRecords, rootStands, isLower, childrenLower, reachedOnce, countStands, leafEntryStands, isExact, entriesStand, pageStands, countsStand, pagesStand, wellFormed}
+use Rattle.rules.specs.Examples.{Run, run as inTurn}
 use Rattle.rules.specs.Strike.{select, strikeAll, strikeOne, strike}
 use Rattle.rules.specs.Scan.{candidate, scanEntry, scan}
 use Rattle.rules.specs.Recording.{growth, goesBefore, leastGrown, choose, leafEntry, splitPage, settle, exactAt, comeBack, append, goDown, goOn, atPage, walkDown, fromRoot, collapse, Outcome, Outcome.Kept, Outcome.Cut, Outcome.Covered, recorded}
 use Rattle.rules.specs.Record.{Called, Reply.Refused, Reply.Answered, refusal, recordInto, refused}
 use Rattle.index.specs.Calls.{counted}
 use Rattle.index.specs.declared.Counted.the-variants.{Counts}
 -- The dates: 1880-03-01 is day 60; 1900-01-01 is 7,305; 2039-12-31 is 58,439.
 pub use Rattle.ground.specs.Examples.{first-of-march, new-century, last-day}
--- Held 15 to 20, new 10 to 29 weaker, other axes equal: not cut.
-pub use Rattle.ground.specs.Examples.{two-ends-stay}
--- Nine records in a row: the pages, the root, and the two questions there.
+-- Nine records in a row: the pages and the root.
 pub use Rattle.rules.specs.Examples.{nine-in-a-row}
-pub use Rattle.asking.specs.Examples.{between, across}
 
 -- a box by its six numbers: 1900-01-01 is day 7,305
 abbrev over : ℕ → ℕ → ℕ → ℕ → ℕ → ℕ → Box
@@ -77,3 +76,34 @@ pub record Transcript : Type 0 where
 pub transcript : Transcript
 unfolding recordInto refusal recorded fromRoot collapse walkDown atPage goOn goDown append comeBack exactAt settle splitPage choose leastGrown goesBefore growth scan scanEntry candidate strike strikeOne strikeAll select cut cutsOn coversOneEnd left leftOn xor covers touches join size summaryOf summary covering firstGreatest leastOf lowestFrom freeCount pageFrom wellFormed pagesStand rootStands everyBelow childrenLower isLower children every reachedOnce times walk pageStands countStands entriesStand leafEntryStands isExact sameWords countsStand heldRecords leafEntries flatMap legal tableOf pagesOf cutPages pageOf entriesOf entryAt boxAt wordsOfPage wordsOfEntries wordsOfEntry wordsOfBox asked searchBook searchPage searchOpened searchOne searchRecord raised inOrder mayOpen askedBy counted
 transcript = record { line-1 = refl; line-2 = refl; line-3 = refl; line-4 = refl; line-5 = refl; line-6 = refl; line-7 = refl; line-8 = refl }
+
+-- Held 15 to 20, new 10 to 29 weaker, other axes equal: not cut, since two ends would stay. The new one is stored whole beside the held one.
+abbrev short : List Entry
+short = leafEntry (over 15 20 10 19 7_305 7_314) 250 ∷ []
+
+abbrev both : List Entry
+both = leafEntry (over 15 20 10 19 7_305 7_314) 250 ∷ leafEntry (over 10 29 10 19 7_305 7_314) 249 ∷ []
+
+pub record TwoEnds : Type 0 where
+  pub held : recordInto (table []) emptySmall (over 15 20 10 19 7_305 7_314) 250 ≡ says Kept 0 short (small 1 0 0)
+  pub weaker : recordInto (table short) (small 1 0 0) (over 10 29 10 19 7_305 7_314) 249 ≡ says Kept 0 both (small 2 0 0)
+
+pub two-ends-stay : TwoEnds
+unfolding recordInto refusal recorded fromRoot collapse walkDown atPage goOn goDown append comeBack exactAt settle splitPage choose leastGrown goesBefore growth scan scanEntry candidate strike strikeOne strikeAll select cut cutsOn coversOneEnd left leftOn xor covers touches join size summaryOf summary covering firstGreatest leastOf lowestFrom freeCount pageFrom wellFormed pagesStand rootStands everyBelow childrenLower isLower children every reachedOnce times walk pageStands countStands entriesStand leafEntryStands isExact sameWords countsStand heldRecords leafEntries flatMap legal tableOf pagesOf cutPages pageOf entriesOf entryAt boxAt wordsOfPage wordsOfEntries wordsOfEntry wordsOfBox
+two-ends-stay = record { held = refl; weaker = refl }
+
+-- The book that nine records in a row leave, of gust 100, one cell each, north 0, day 0, east 0, 10 .. 80 in order.
+abbrev nine : Run
+nine = inTurn (emptyLeaf ∷ replicate 179 freePage) emptySmall (map (λ x. record { box = over x x 0 0 0 0; gust = 100 }) (0 ∷ 10 ∷ 20 ∷ 30 ∷ 40 ∷ 50 ∷ 60 ∷ 70 ∷ 80 ∷ []))
+
+abbrev askNine : Box → Run → Asked
+askNine q o = asked (tableOf (o .pages)) (o .small) q
+
+-- Asking there, east 75 to 79, gives nothing, 2 pages; 45 to 65 gives 100, 2 pages.
+pub between : askNine (over 75 79 0 0 0 0) nine ≡ Nothing 2
+unfolding asked searchBook searchPage searchOpened searchOne searchRecord searchEntry raised step follow inOrder mayOpen askedBy legal touches covers tableOf pagesOf cutPages pageOf entriesOf entryAt boxAt wordsOfPage wordsOfEntries wordsOfEntry wordsOfBox pageFrom
+between = ap (askNine (over 75 79 0 0 0 0)) nine-in-a-row
+
+pub across : askNine (over 45 65 0 0 0 0) nine ≡ Gust 100 2
+unfolding asked searchBook searchPage searchOpened searchOne searchRecord searchEntry raised step follow inOrder mayOpen askedBy legal touches covers tableOf pagesOf cutPages pageOf entriesOf entryAt boxAt wordsOfPage wordsOfEntries wordsOfEntry wordsOfBox pageFrom
+across = ap (askNine (over 45 65 0 0 0 0)) nine-in-a-row

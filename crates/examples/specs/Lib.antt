@@ -1,0 +1,2 @@
+-- Document 01's examples marked P, in one list.
+pub mod Marked
