@@ -23,8 +23,7 @@ use Rattle.rules.specs.Strike.{select, strikeAll, strikeOne, strike}
 use Rattle.rules.specs.Scan.{candidate, scanEntry, scan}
 use Rattle.rules.specs.Recording.{growth, goesBefore, leastGrown, choose, leafEntry, splitPage, settle, exactAt, comeBack, append, goDown, goOn, atPage, walkDown, fromRoot, collapse, Outcome, Outcome.Kept, Outcome.Cut, Outcome.Covered, recorded}
 use Rattle.rules.specs.Record.{Called, Reply.Refused, Reply.Answered, refusal, recordInto, refused}
-use Rattle.index.specs.Calls.{counted}
-use Rattle.index.specs.declared.Counted.the-variants.{Counts}
+use Rattle.index.specs.Calls.{countAnswer, CountSaid.Numbers}
 -- The dates: 1880-03-01 is day 60; 1900-01-01 is 7,305; 2039-12-31 is 58,439.
 pub use Rattle.ground.specs.Examples.{first-of-march, new-century, last-day}
 -- Nine records in a row: the pages and the root.
@@ -71,10 +70,10 @@ pub record Transcript : Type 0 where
   -- add 5 4 0 0 1900-01-01 1900-01-01 1: refused 2
   pub line-7 : recordInto (table two) (small 4 1 1) (over 5 4 0 0 7_305 7_305) 1 ≡ refused 2 (table two) (small 4 1 1)
   -- count: accepted 4 held 2 struck 1 covered 1
-  pub line-8 : counted (table two) (small 4 1 1) ≡ Counts 4 2 1 1
+  pub line-8 : countAnswer (table two) (small 4 1 1) ≡ Numbers 4 2 1 1
 
 pub transcript : Transcript
-unfolding recordInto refusal recorded fromRoot collapse walkDown atPage goOn goDown append comeBack exactAt settle splitPage choose leastGrown goesBefore growth scan scanEntry candidate strike strikeOne strikeAll select cut cutsOn coversOneEnd left leftOn xor covers touches join size summaryOf summary covering firstGreatest leastOf lowestFrom freeCount pageFrom wellFormed pagesStand rootStands everyBelow childrenLower isLower children every reachedOnce times walk pageStands countStands entriesStand leafEntryStands isExact sameWords countsStand heldRecords leafEntries flatMap legal tableOf pagesOf cutPages pageOf entriesOf entryAt boxAt wordsOfPage wordsOfEntries wordsOfEntry wordsOfBox asked searchBook searchPage searchOpened searchOne searchRecord raised inOrder mayOpen askedBy counted
+unfolding recordInto refusal recorded fromRoot collapse walkDown atPage goOn goDown append comeBack exactAt settle splitPage choose leastGrown goesBefore growth scan scanEntry candidate strike strikeOne strikeAll select cut cutsOn coversOneEnd left leftOn xor covers touches join size summaryOf summary covering firstGreatest leastOf lowestFrom freeCount pageFrom wellFormed pagesStand rootStands everyBelow childrenLower isLower children every reachedOnce times walk pageStands countStands entriesStand leafEntryStands isExact sameWords countsStand heldRecords leafEntries flatMap legal tableOf pagesOf cutPages pageOf entriesOf entryAt boxAt wordsOfPage wordsOfEntries wordsOfEntry wordsOfBox asked searchBook searchPage searchOpened searchOne searchRecord raised inOrder mayOpen askedBy
 transcript = record { line-1 = refl; line-2 = refl; line-3 = refl; line-4 = refl; line-5 = refl; line-6 = refl; line-7 = refl; line-8 = refl }
 
 -- Held 15 to 20, new 10 to 29 weaker, other axes equal: not cut, since two ends would stay. The new one is stored whole beside the held one.

@@ -28,7 +28,7 @@ use Rattle.wellformed.specs.VerdictLaws.{well-held, well-damaged, well-count}
 use Rattle.index.specs.declared.Counted.{Counted}
 use Rattle.index.specs.declared.Counted.the-variants.{Refused, Counts}
 use Rattle.index.specs.declared.Ended.{Ended}
-use Rattle.index.specs.Calls.{Left, Saved, unchanged, emptyBook, cleared, countsOf, counted, countSays, saveRefusal, saved, imageRefusal, pagesRefusal, imageSmall, loadedPages, loaded}
+use Rattle.index.specs.Calls.{Left, Saved, unchanged, emptyBook, cleared, CountSaid.NotCounted, CountSaid.Numbers, numbersOf, countAnswer, countSays, caseOf, counted, saveRefusal, saved, imageRefusal, pagesRefusal, imageSmall, loadedPages, loaded}
 
 -- What a call leaves, by the code's answer.
 abbrev pub leftOf : List ℕ → Ended → Left
@@ -43,17 +43,14 @@ module _ (t : List ℕ) (s : Small) (b : Bool) (e : b ≡ tableFits t) where
   unfolding cleared
   clear-done u r h f g = rw (sym e ∙ not-false b h) (λ i. record { refusal = 0; table = f i; small = g i })
 
-  pub count-unfit : not b ≡ true → Refused 1 ≡ counted t s
-  unfolding counted
+  pub count-unfit : not b ≡ true → NotCounted 1 ≡ countAnswer t s
   count-unfit h = rw (sym e ∙ not-true b h)
 
-  pub count-damaged : (k : Checked) → not b ≡ false → k ≡ checked t s → k ≡ Damaged → Refused 4 ≡ counted t s
-  unfolding counted
+  pub count-damaged : (k : Checked) → not b ≡ false → k ≡ checked t s → k ≡ Damaged → NotCounted 4 ≡ countAnswer t s
   count-damaged k h f g = rw (sym e ∙ not-false b h, sym (well-damaged t s k f g))
 
-  pub count-held : (k : Checked) (n : ℕ) → not b ≡ false → k ≡ checked t s → k ≡ Held n → Counts (s .accepted) n (s .struck) (s .covered) ≡ counted t s
-  unfolding counted
-  count-held k n h f g = rw (sym e ∙ not-false b h, sym (well-held t s k f n g)) (ap (λ m. Counts (s .accepted) m (s .struck) (s .covered)) (well-count t s k f n g))
+  pub count-held : (k : Checked) (n : ℕ) → not b ≡ false → k ≡ checked t s → k ≡ Held n → Numbers (s .accepted) n (s .struck) (s .covered) ≡ countAnswer t s
+  count-held k n h f g = rw (sym e ∙ not-false b h, sym (well-held t s k f n g)) (ap (λ m. Numbers (s .accepted) m (s .struck) (s .covered)) (well-count t s k f n g))
 
   pub save-unfit : (out : List ℕ) → not b ≡ true → record { refusal = 1; buffer = out } ≡ saved t s out
   unfolding saved saveRefusal
@@ -153,10 +150,16 @@ module _ (image t : List ℕ) (s : Small) (m : ℕ) (e : m ≡ imageRefusal imag
         let c : after ≡ emptyTable t = a ∙ ap (λ n. set (replicate n 0) 0 1) l in
         rw (sym e, z, w) (λ i. record { refusal = 4; table = c i; small = b i })
 
--- on a well-formed book held, struck and covered make up accepted
-pub counts-add-up : (t : List ℕ) (s : Small) → wellFormed t s ≡ true → countSays (counted t s) .held + countSays (counted t s) .struck + countSays (counted t s) .covered ≡ countSays (counted t s) .accepted
-unfolding counted countsStand
+-- the promise of `count` leaves one case
+pub count-is : (t : List ℕ) (s : Small) (r : Counted) → countSays r ≡ countAnswer t s → r ≡ counted t s
+unfolding counted
+count-is t s (Refused number) e = ap caseOf e
+count-is t s (Counts accepted held struck covered) e = ap caseOf e
+
+-- on a well-formed book the numbers are told, and held, struck and covered make up accepted
+pub counts-add-up : (t : List ℕ) (s : Small) → wellFormed t s ≡ true → (countAnswer t s ≡ numbersOf t s) × (length (heldRecords (pagesOf t) s) + s .struck + s .covered ≡ s .accepted)
+unfolding countsStand
 counts-add-up t s w =
     let p = parts t s w in
     let c = both (leb (s .accepted) mostAccepted) (eqb (length (heldRecords (pagesOf t) s) + s .struck + s .covered) (s .accepted)) (p .counts) in
-    rw (p .fits, w) (eqb-true (length (heldRecords (pagesOf t) s) + s .struck + s .covered) (s .accepted) (c .1))
+    (rw (p .fits, w), eqb-true (length (heldRecords (pagesOf t) s) + s .struck + s .covered) (s .accepted) (c .1))

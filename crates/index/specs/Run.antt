@@ -18,7 +18,7 @@ use Rattle.wellformed.specs.WellFormed.{heldRecords, wellFormed}
 use Rattle.rules.specs.Record.{Reply, refusal, recordInto}
 use Rattle.rules.specs.Recording.{leafEntry}
 use Rattle.split.specs.SplitLaws.{Each}
-use Rattle.index.specs.Calls.{CountSaid, Saved, cleared, counted, countSays, saved, loaded, imageSmall}
+use Rattle.index.specs.Calls.{CountSaid, Saved, cleared, countAnswer, saved, loaded, imageSmall}
 
 -- A call with its arguments: any box, gust, image and buffer.
 pub data Call : Type 0 where
@@ -56,7 +56,7 @@ abbrev pub replyTo : Call → Book → Told
 replyTo Clear b = ToClear (cleared (b .table) (b .small) .refusal)
 replyTo (Record x v) b = ToRecord (recordInto (b .table) (b .small) x v .reply)
 replyTo (Ask q) b = ToAsk (says (asked (b .table) (b .small) q))
-replyTo Count b = ToCount (countSays (counted (b .table) (b .small)))
+replyTo Count b = ToCount (countAnswer (b .table) (b .small))
 replyTo (Save out) b = ToSave (saved (b .table) (b .small) out)
 replyTo (Load image) b = ToLoad (loaded image (b .table) (b .small) .refusal)
 
