@@ -55,7 +55,7 @@ image-comes-back t u s r w words l =
     let p = pagesIn t in
     let k = savable t s w words in
     let f = fitting t (parts t s w .fits) in
-    let long : length t ≡ 170 * p = omega arith in
+    let long : length t ≡ pageWords * p = omega arith in
     let size = pages-of-length (length (imageOf imageForm t s)) p (record { length = image-length imageForm p t s long; least = f .some; most = f .most }) in
     let good = loaded-good imageForm p t s (omega arith) long k in
     let table = loaded-table imageForm t s words in
