@@ -1,8 +1,8 @@
--- Document 01's examples marked P, in one list: each is a theorem, by computation. The transcript is at the end.
+-- Document 01's examples marked P, in one list: each is a theorem, by computation.
 use Prim.Native.Nat.{ℕ}
 use mathlib.Core.Bool.{xor, true}
 use mathlib.Core.List.{List, [], _∷_, flatMap, map}
-use mathlib.Core.Path.{_≡_, refl, ap}
+use mathlib.Core.Path.{_≡_, refl, ap, _∙_}
 use lib.ListN.{replicate}
 use Rattle.asking.specs.Asking.{asked, raised, step, follow, searchEntry, searchRecord, searchOne, inOrder, mayOpen, searchOpened, searchPage, searchBook, answered as askedBy}
 use Rattle.asking.specs.declared.Asked.{Asked}
@@ -10,24 +10,27 @@ use Rattle.asking.specs.declared.Asked.the-variants.{Nothing, Gust}
 use Rattle.ground.specs.Boxes.{join, size, covers, touches, legal}
 use Rattle.ground.specs.Cutting.{cut, cutsOn, coversOneEnd, left, leftOn}
 use Rattle.ground.specs.declared.boxes.Box.{Box}
-use Rattle.pages.specs.Free.{emptySmall, lowestFrom, freeCount, emptyLeaf}
-use Rattle.pages.specs.Layout.{freePage, tableOf, pagesOf, cutPages, pageOf, entriesOf, entryAt, boxAt, wordsOfPage, wordsOfEntries, wordsOfEntry, wordsOfBox}
+use Rattle.pages.specs.Free.{emptyTable, emptySmall, lowestFrom, freeCount, emptyLeaf}
+use Rattle.pages.specs.FreeLaws.{empty-pages}
+use Rattle.pages.specs.Layout.{tableFits, freePage, tableOf, pagesOf, cutPages, pageOf, entriesOf, entryAt, boxAt, wordsOfPage, wordsOfEntries, wordsOfEntry, wordsOfBox}
 use Rattle.pages.specs.Summary.{summaryOf, summary, covering, firstGreatest, leastOf}
 use Rattle.pages.specs.Words.{every, sameWords}
 use Rattle.pages.specs.declared.Entry.{Entry}
+use Rattle.pages.specs.declared.Page.{Page}
 use Rattle.pages.specs.declared.Small.{Small}
-use Rattle.split.specs.Split.{pageFrom}
+use Rattle.split.specs.Split.{halves, pageFrom, begin, seeds, places, pairs, pairsWith, mostWasteful, wastesMore, placeAll, place, takes, next, firstMost, growthsDiffer, growth as groupGrowth, secondTakes}
 use Rattle.wellformed.specs.WellFormed.{everyBelow, times, children, walk, leafEntries, heldRecords, rootStands, isLower, childrenLower, reachedOnce, countStands, leafEntryStands, isExact, entriesStand, pageStands, countsStand, pagesStand, wellFormed}
-use Rattle.rules.specs.Examples.{Run, run as inTurn}
+use Rattle.rules.specs.Examples.{Report, run as inTurn, nine-in-a-row as nine-by-the-rules}
+use Rattle.rules.specs.EmptyBook.{empty-well-formed}
 use Rattle.rules.specs.Strike.{select, strikeAll, strikeOne, strike}
 use Rattle.rules.specs.Scan.{candidate, scanEntry, scan}
 use Rattle.rules.specs.Recording.{growth, goesBefore, leastGrown, choose, leafEntry, splitPage, settle, exactAt, comeBack, append, goDown, goOn, atPage, walkDown, fromRoot, collapse, Outcome, Outcome.Kept, Outcome.Cut, Outcome.Covered, recorded}
 use Rattle.rules.specs.Record.{Called, Reply.Refused, Reply.Answered, refusal, recordInto, refused}
 use Rattle.index.specs.Calls.{countAnswer, CountSaid.Numbers}
+use Rattle.index.specs.Run.{Book, run}
+use Rattle.examples.specs.InTurn.{callsOf, bookOf, passOne, allPass, in-turn}
 -- The dates: 1880-03-01 is day 60; 1900-01-01 is 7,305; 2039-12-31 is 58,439.
 pub use Rattle.ground.specs.Examples.{first-of-march, new-century, last-day}
--- Nine records in a row: the pages and the root.
-pub use Rattle.rules.specs.Examples.{nine-in-a-row}
 
 -- a box by its six numbers: 1900-01-01 is day 7,305
 abbrev over : ℕ → ℕ → ℕ → ℕ → ℕ → ℕ → Box
@@ -91,18 +94,50 @@ pub two-ends-stay : TwoEnds
 unfolding recordInto refusal recorded fromRoot collapse walkDown atPage goOn goDown append comeBack exactAt settle splitPage choose leastGrown goesBefore growth scan scanEntry candidate strike strikeOne strikeAll select cut cutsOn coversOneEnd left leftOn xor covers touches join size summaryOf summary covering firstGreatest leastOf lowestFrom freeCount pageFrom wellFormed pagesStand rootStands everyBelow childrenLower isLower children every reachedOnce times walk pageStands countStands entriesStand leafEntryStands isExact sameWords countsStand heldRecords leafEntries flatMap legal tableOf pagesOf cutPages pageOf entriesOf entryAt boxAt wordsOfPage wordsOfEntries wordsOfEntry wordsOfBox
 two-ends-stay = record { held = refl; weaker = refl }
 
--- The book that nine records in a row leave, of gust 100, one cell each, north 0, day 0, east 0, 10 .. 80 in order.
-abbrev nine : Run
-nine = inTurn (emptyLeaf ∷ replicate 179 freePage) emptySmall (map (λ x. record { box = over x x 0 0 0 0; gust = 100 }) (0 ∷ 10 ∷ 20 ∷ 30 ∷ 40 ∷ 50 ∷ 60 ∷ 70 ∷ 80 ∷ []))
+-- Nine records of gust 100, one cell each, north 0, day 0, east 0, 10 .. 80 in order, as calls on the program's 180 pages, cleared.
+abbrev reports : List Report
+reports = map (λ x. record { box = over x x 0 0 0 0; gust = 100 }) (0 ∷ 10 ∷ 20 ∷ 30 ∷ 40 ∷ 50 ∷ 60 ∷ 70 ∷ 80 ∷ [])
 
-abbrev askNine : Box → Run → Asked
-askNine q o = asked (tableOf (o .pages)) (o .small) q
+abbrev cleared : List ℕ
+cleared = emptyTable (replicate 30_600 0)
+
+abbrev pub nine : Book
+nine = run (callsOf reports) (record { book = record { table = cleared; small = emptySmall }; list = [] }) .book
+
+-- Leaf page 0 holds 0 to 50, page 1 holds 80, 60, 70; root page 2.
+abbrev leaf : List ℕ → Page
+leaf xs = pageFrom 1 (map (λ x. leafEntry (over x x 0 0 0 0) 100) xs)
+
+abbrev above : ℕ → ℕ → ℕ → ℕ → Entry
+above p a b first = record { place = over a b 0 0 0 0; gust = 100; weakest = 100; child = p; strongest = over first first 0 0 0 0; union = over first first 0 0 0 0 }
+
+abbrev ninePages : List Page
+ninePages =
+    leaf (0 ∷ 10 ∷ 20 ∷ 30 ∷ 40 ∷ 50 ∷ [])
+    ∷ leaf (80 ∷ 60 ∷ 70 ∷ [])
+    ∷ pageFrom 2 (above 0 0 50 0 ∷ above 1 60 80 80 ∷ [])
+    ∷ replicate 177 freePage
+
+none-refused : allPass (emptyLeaf ∷ replicate 179 freePage) emptySmall reports ≡ true
+unfolding allPass passOne recorded fromRoot collapse walkDown atPage goOn goDown append comeBack exactAt settle splitPage choose leastGrown goesBefore growth scan scanEntry candidate strike strikeOne strikeAll select cut cutsOn coversOneEnd left leftOn xor covers touches join size summaryOf summary covering firstGreatest leastOf lowestFrom freeCount halves pageFrom begin seeds places pairs pairsWith mostWasteful wastesMore placeAll place takes next firstMost growthsDiffer groupGrowth secondTakes legal
+none-refused = refl
+
+pub nine-in-a-row : nine ≡ record { table = tableOf ninePages; small = record { root = 2; height = 2; accepted = 9; struck = 0; covered = 0 } }
+nine-in-a-row =
+    let fits : tableFits (replicate 30_600 0) ≡ true = refl in
+    let pages = empty-pages (replicate 30_600 0) fits in
+    in-turn reports cleared emptySmall [] (empty-well-formed (replicate 30_600 0) fits) (ap (λ (ps : List Page). allPass ps emptySmall reports) pages ∙ none-refused)
+    ∙ ap (λ (ps : List Page). bookOf (inTurn ps emptySmall reports)) pages
+    ∙ ap bookOf nine-by-the-rules
 
 -- Asking there, east 75 to 79, gives nothing, 2 pages; 45 to 65 gives 100, 2 pages.
-pub between : askNine (over 75 79 0 0 0 0) nine ≡ Nothing 2
-unfolding asked searchBook searchPage searchOpened searchOne searchRecord searchEntry raised step follow inOrder mayOpen askedBy legal touches covers tableOf pagesOf cutPages pageOf entriesOf entryAt boxAt wordsOfPage wordsOfEntries wordsOfEntry wordsOfBox pageFrom
-between = ap (askNine (over 75 79 0 0 0 0)) nine-in-a-row
+abbrev askIn : Box → Book → Asked
+askIn q k = asked (k .table) (k .small) q
 
-pub across : askNine (over 45 65 0 0 0 0) nine ≡ Gust 100 2
+pub between : askIn (over 75 79 0 0 0 0) nine ≡ Nothing 2
 unfolding asked searchBook searchPage searchOpened searchOne searchRecord searchEntry raised step follow inOrder mayOpen askedBy legal touches covers tableOf pagesOf cutPages pageOf entriesOf entryAt boxAt wordsOfPage wordsOfEntries wordsOfEntry wordsOfBox pageFrom
-across = ap (askNine (over 45 65 0 0 0 0)) nine-in-a-row
+between = ap (askIn (over 75 79 0 0 0 0)) nine-in-a-row
+
+pub across : askIn (over 45 65 0 0 0 0) nine ≡ Gust 100 2
+unfolding asked searchBook searchPage searchOpened searchOne searchRecord searchEntry raised step follow inOrder mayOpen askedBy legal touches covers tableOf pagesOf cutPages pageOf entriesOf entryAt boxAt wordsOfPage wordsOfEntries wordsOfEntry wordsOfBox pageFrom
+across = ap (askIn (over 45 65 0 0 0 0)) nine-in-a-row
