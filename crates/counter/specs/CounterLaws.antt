@@ -250,7 +250,7 @@ line-good : (before : List (List ℕ)) (l : List ℕ) (later : List (List ℕ)) 
 unfolding served
 line-good before l later t e =
     let k : Book = record { table = emptyTable t; small = emptySmall } in
-    let g = any-run-from-empty (callsIn before) t e in
+    let g = any-run-from-empty (callsIn before) t e .last in
     record {
       stands = served-append before (l ∷ later) k ∙ ap (λ (b : Book). served before k ++ served (l ∷ later) b) (moment-book before t);
       good = g;
@@ -267,10 +267,10 @@ pub lines-good :
 lines-good input t e = (
   (λ before l later same. line-good before l later t e),
   ap (λ c. c .book) (line-by-line input (record { table = emptyTable t; small = emptySmall })) ∙ moment-book (linesOf input) t,
-  any-run-from-empty (callsIn (linesOf input)) t e,
+  any-run-from-empty (callsIn (linesOf input)) t e .last,
 )
 
 -- a line leaves a well-formed book well-formed
 pub line-sound : (l : Line) (k : Book) → wellFormed (k .table) (k .small) ≡ true → wellFormed (bookAfter l k .table) (bookAfter l k .small) ≡ true
 line-sound l k w =
-    subst (λ (x : Book). wellFormed (x .table) (x .small) ≡ true) (run-book (callsOf l) (record { book = k; list = held k })) (any-run (callsOf l) k w .well-formed)
+    subst (λ (x : Book). wellFormed (x .table) (x .small) ≡ true) (run-book (callsOf l) (record { book = k; list = held k })) (any-run (callsOf l) k w .last .well-formed)
