@@ -1,6 +1,7 @@
 -- What lies outside every proof: reading and writing. Their contracts say how many bytes were moved, and no more.
 use Prim.Native.Nat.{ℕ, _≤_}
 use mathlib.Core.List.{List, [], _∷_, _++_}
+use mathlib.Core.Path.{_≡_}
 use lib.IntN.{ℤ}
 use lib.ListN.{length, take}
 use Rattle.io.specs.Counts.{clamped}
@@ -29,6 +30,14 @@ a-read answer buffer h = reads answer buffer h
 pub a-write : (answer : ℤ) (bytes : List ℕ) → Moved (length bytes) answer → Happened [] (moved answer bytes)
 unfolding Happened
 a-write answer bytes h = writes answer bytes h
+
+-- The writer was offered these bytes, at least one, and took none of them. This too is shut, and only `handed-stop` cites its law.
+pub TookNone : List ℕ → Type 0
+TookNone bytes = (answer : ℤ) × Moved (length bytes) answer × (moved answer bytes ≡ []) × (1 ≤ length bytes)
+
+pub took-none : (answer : ℤ) (bytes : List ℕ) → Moved (length bytes) answer → moved answer bytes ≡ [] → 1 ≤ length bytes → TookNone bytes
+unfolding TookNone
+took-none answer bytes h e some = (answer, h, e, some)
 
 -- nothing, and one stretch after another
 pub nothing-yet : Happened [] []

@@ -1,9 +1,9 @@
 -- A counter program's turns: each reads once, has what came served, and hands the answers to the writer before anything else is read.
-use Prim.Native.Nat.{ℕ, _+_, _*_, _≤_}
+use Prim.Native.Nat.{ℕ, _+_, _*_, _≤_, _<_}
 use mathlib.Core.Bool.{Bool, true, false}
 use mathlib.Core.List.{List, [], _∷_, _++_}
 use mathlib.Core.Path.{_≡_}
-use lib.ListN.{length, take}
+use lib.ListN.{length, take, drop}
 use Rattle.counter.specs.Counter.{linesOf, served, bookServed, Counter, fed, whole, leftBy, answersTo}
 use Rattle.counter.specs.FeedSteps.{zeros, counterOf, Ready, Shows}
 use Rattle.counter.specs.declared.State.{State}
@@ -12,7 +12,7 @@ use Rattle.lines.specs.Lines.{longestLine}
 use Rattle.lines.specs.Printing.{longestAnswer}
 use Rattle.pages.specs.Free.{emptySmall, emptyTable}
 use Rattle.pages.specs.Layout.{tableFits}
-use Rattle.serving.specs.Outside.{Happened}
+use Rattle.serving.specs.Outside.{Happened, TookNone}
 use Rattle.serving.specs.declared.Came.{Came}
 use Rattle.serving.specs.declared.Turn.{Turn}
 use Rattle.serving.specs.declared.Ending.{Ending}
@@ -28,12 +28,17 @@ pub record MayServe (t line input out : List ℕ) : Type 0 where
 -- A read: the bytes that it left at the start of the buffer came in.
 pub record CameIn (input : List ℕ) (r : Came) : Type 0 where
   pub within : r .count ≤ length input
+  pub counts : r .count ≡ length (take (r .count) input)
   pub happened : Happened (take (r .count) input ∷ []) []
 
--- Bytes given to the writer: it took the first so many.
-pub record HandedOver (bytes : List ℕ) (count : ℕ) : Type 0 where
+-- Bytes given to the writer: it took the first so many, and was offered the rest too.
+pub record Handing (bytes : List ℕ) (count : ℕ) : Type 0 where
   pub within : count ≤ length bytes
   pub happened : Happened [] (take count bytes)
+
+pub record HandedOver (bytes : List ℕ) (count : ℕ) : Type 0 where
+  pub taken : Handing bytes count
+  pub stopped : count < length bytes → TookNone (drop count bytes)
 
 -- A turn: table, line, buffer and state are those of the counter fed with the chunk that came in, every word and byte;
 -- and of the answers to it the writer took the first so many.
@@ -41,6 +46,7 @@ pub record Turned (c : Counter) (first input t line out : List ℕ) (r : Turn) :
   pub within : r .came ≤ length input
   pub shows : Shows (fed (take (r .came) input) c) first t line out (r .state)
   pub happened : Happened (take (r .came) input ∷ []) (take (r .handed) (fed (take (r .came) input) c .out))
+  pub stopped : r .handed < r .state .printed → TookNone (drop (r .handed) (fed (take (r .came) input) c .out))
 
 -- Whether the writer took all answers when the turns end so.
 abbrev pub allHanded : Ending → Bool
@@ -70,6 +76,7 @@ pub record Served (c : Counter) (n : ℕ) (t line out : List ℕ) (s : State) (a
   pub left : counterOf t line out s ≡ leftBy chunks c
   pub in-order : handed ++ rest ≡ answersTo chunks c
   pub no-rest : all ≡ true → rest ≡ []
+  pub stopped : all ≡ false → TookNone rest
   pub ends : to-end ≡ true → EndsEmpty chunks
   pub ready : Ready n t line out s
 
@@ -81,11 +88,19 @@ pub record LastHanded (e : Ending) (bytes : List ℕ) (r : Ending) : Type 0 wher
   pub in-order : handed ++ rest ≡ bytes
   pub kept-back : allHanded e ≡ false → handed ≡ []
   pub no-rest : allHanded r ≡ true → (allHanded e ≡ true) × (rest ≡ [])
+  pub stopped : allHanded e ≡ true → allHanded r ≡ false → TookNone rest
   pub same-end : readOut r ≡ true → readOut e ≡ true
 
 -- The empty book on a table.
 abbrev pub emptied : List ℕ → Book
 emptied t = record { table = emptyTable t; small = emptySmall }
+
+-- Of what is missing the writer was offered the first bytes, and took none of them.
+pub record Offered (rest : List ℕ) : Type 0 where
+  pub first : List ℕ
+  pub more : List ℕ
+  pub is : rest ≡ first ++ more
+  pub took-none : TookNone first
 
 -- A whole run, on a table that it clears: all that the writer took is, byte for byte, the answers to the lines of all that was read, in order;
 -- nothing is missing at their end unless the writer took no more, and it was read until a read left nothing; and the table holds the book that those lines leave.
@@ -96,5 +111,6 @@ pub record Ran (t u : List ℕ) (r : Ending) : Type 0 where
   pub happened : Happened chunks handed
   pub answers : handed ++ rest ≡ served (linesOf (whole chunks)) (emptied t)
   pub no-rest : allHanded r ≡ true → rest ≡ []
+  pub stopped : allHanded r ≡ false → Offered rest
   pub ends : readOut r ≡ true → EndsEmpty chunks
   pub book : u ≡ bookServed (linesOf (whole chunks)) (emptied t) .table

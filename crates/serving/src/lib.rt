@@ -38,7 +38,7 @@ pub struct Turn {
 
 impl Turn {
     // What is read at once, in bytes.
-    pub const CHUNK: usize = 1024;
+    pub const CHUNK: usize = 4096;
 
     // Room for the longest answer to every byte of a chunk, each of which could end a line.
     pub const ANSWERS: usize = Turn::CHUNK * Answer::LONGEST;

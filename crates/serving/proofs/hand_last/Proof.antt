@@ -19,7 +19,7 @@ hand-over-requires c κs = search needs
 returns-2 : tie.Need-returns-2
 returns-2 c =
     let before = c .before .before .before .all-handed in
-    last-short _ _ _ (c .before .hand-over .ensures) (sym before.ensures ∙ not-false before.result (c .before .before .if1 .left))
+    last-short _ _ _ (c .before .hand-over .ensures) (sym before.ensures ∙ not-false before.result (c .before .before .if1 .left)) (omega arith)
 
 returns-3 : tie.Need-returns-3
 returns-3 c =

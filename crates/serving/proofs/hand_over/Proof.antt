@@ -5,13 +5,13 @@ use Prim.Native.Nat.{_-_}
 use mir.Facts.{toZ-ofZ}
 use mir.Syntax.{w64}
 use lib.ListN.{length}
-use Rattle.serving.specs.Serving.{HandedOver}
-use Rattle.serving.specs.ServingLaws.{handed-none, handed-more}
+use Rattle.serving.specs.Serving.{Handing}
+use Rattle.serving.specs.ServingLaws.{handed-none, handed-all, handed-more, handed-stop}
 use Rattle.serving.proofs.hand_over.Statement.{statement}
 use Rattle.serving.proofs.hand_over.Tie as tie
 
 abbrev Inv-loop : tie.InvT-loop
-Inv-loop bytes done₀ done = HandedOver bytes done
+Inv-loop bytes done₀ done = Handing bytes done
 
 abbrev μ-loop : tie.MeasureT-loop
 μ-loop bytes done₀ done = length bytes - done
@@ -44,7 +44,13 @@ count-requires : tie.Need-count-requires Inv-loop μ-loop
 count-requires c κs = search needs
 
 returns : tie.Need-returns Inv-loop μ-loop
-returns c = search needs
+returns c =
+    let counted = c .before .count in
+    let wrote = c .before .before .before .write in
+    let so-far = c .before .before .before .before .before .before .loop in
+    let bytes = c .before .before .before .before .before .before .before .before .args .bytes .now in
+    let back = toZ-ofZ {w = w64} (record { sfits = wrote.ok }) in
+    handed-stop bytes so-far.done counted.result wrote.result _ so-far.inv wrote.ensures back (counted .ensures .1) (c .if1 .taken) (omega arith)
 
 -- the bytes that this write took come behind those before
 loop-again : tie.Need-loop-again Inv-loop μ-loop
@@ -63,7 +69,7 @@ loop-less : tie.Need-loop-less Inv-loop μ-loop
 loop-less c = let more = loop-again c in omega (arith, more .within, c .if1 .left)
 
 returns-2 : tie.Need-returns-2 Inv-loop μ-loop
-returns-2 c = search needs
+returns-2 c = handed-all _ _ (c .before .loop .inv) (omega arith)
 
 pub hand-over-spec : {M : Type 1} → statement M
 hand-over-spec =

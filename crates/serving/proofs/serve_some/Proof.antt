@@ -16,7 +16,7 @@ slice-reshare-prefix-feed : tie.Need-slice-reshare-prefix-feed
 slice-reshare-prefix-feed c = search needs
 
 slice-aggregate-feed : tie.Need-slice-aggregate-feed
-slice-aggregate-feed c = sym (length-take-le _ _ (c .before .before .before .before .before .take-in .ensures .within))
+slice-aggregate-feed c = search needs
 
 feed-requires : tie.Need-feed-requires
 feed-requires c κs =
