@@ -27,7 +27,7 @@ ghost use Rattle.recording.specs.WalkSteps.{MayWalk};
 // The pages that a page's entries name. Held while they are freed, since a spoilt table may name the page itself.
 pub struct Children {
     pub count: usize,
-    pub pages: [u16; 8],
+    pub pages: [u16; Page::ENTRIES],
 }
 
 fn no_children() -> Children
@@ -35,7 +35,7 @@ fn no_children() -> Children
 {
     Children {
         count: 0,
-        pages: [0; 8],
+        pages: [0; Page::ENTRIES],
     }
 }
 
