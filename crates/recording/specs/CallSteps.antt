@@ -11,11 +11,11 @@ use Rattle.pages.specs.FreeLaws.{free-most}
 use Rattle.pages.specs.Layout.{tableFits, pagesOf, tableOf}
 use Rattle.pages.specs.LayoutLaws.{table-pages, pages-length}
 use Rattle.pages.specs.declared.Small.{Small}
-use Rattle.recording.specs.declared.Answered as code-answered
+use Rattle.recording.specs.declared.sound.Answered as code-answered
 use Rattle.recording.specs.declared.Called as code-called
 use Rattle.recording.specs.declared.Reply as code-reply
 use Rattle.recording.specs.declared.Reply.the-variants as say
-use Rattle.recording.specs.declared.Sought as code-sought
+use Rattle.recording.specs.declared.scan.Sought as code-sought
 use Rattle.rules.specs.Book.{before}
 use Rattle.rules.specs.FromRoot.{root-level}
 use Rattle.rules.specs.FromWellFormed.{book, all-formed}

@@ -16,8 +16,8 @@ use Rattle.pages.specs.declared.Entry.{Entry}
 use Rattle.pages.specs.declared.Page.{Page}
 use Rattle.split.specs.Split.{halves, pageFrom}
 use Rattle.wellformed.specs.WellFormed.{page}
-use Rattle.recording.specs.declared.Became as code-became
-use Rattle.recording.specs.declared.Became.the-variants as case
+use Rattle.recording.specs.declared.settle.Became as code-became
+use Rattle.recording.specs.declared.settle.Became.the-variants as case
 use Rattle.recording.specs.PageSteps.{Tidy, count-is, pushed, put-there}
 use Rattle.rules.specs.Recording.{Became, Became.stands, settleBy, settle, splitPage, intoPage, exactAt}
 use Rattle.rules.specs.Scan.{handedIn}

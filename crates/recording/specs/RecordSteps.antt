@@ -9,10 +9,10 @@ use Rattle.pages.specs.Layout.{mostPages, tableFits, pagesOf}
 use Rattle.pages.specs.declared.Page.{Page}
 use Rattle.pages.specs.declared.Small.{Small}
 use Rattle.wellformed.specs.WellFormed.{page, mostAccepted}
-use Rattle.recording.specs.declared.Walked as code-walked
+use Rattle.recording.specs.declared.walk.Walked as code-walked
 use Rattle.recording.specs.declared.Outcome as code-outcome
 use Rattle.recording.specs.declared.Outcome.the-variants as case
-use Rattle.recording.specs.declared.Answered as code-answered
+use Rattle.recording.specs.declared.sound.Answered as code-answered
 use Rattle.rules.specs.Scan.{Sought, handedIn}
 use Rattle.rules.specs.Recording.{Walked, fromRoot, putRootRight, collapse, Outcome, Outcome.Kept, Outcome.Cut, Outcome.Covered, outcomeOf, Recorded, recorded}
 use Rattle.recording.specs.RootSteps.{Roots, RootsIf, LevelFits}

@@ -19,9 +19,9 @@ use Rattle.pages.specs.declared.FreePage.the-variants.{At, NoPage}
 use Rattle.pages.specs.declared.Page.{Page}
 use Rattle.split.specs.Split.{pageFrom}
 use Rattle.wellformed.specs.WellFormed.{page}
-use Rattle.recording.specs.declared.Became as code-became
-use Rattle.recording.specs.declared.Became.the-variants as case
-use Rattle.recording.specs.declared.Walked as code-walked
+use Rattle.recording.specs.declared.settle.Became as code-became
+use Rattle.recording.specs.declared.settle.Became.the-variants as case
+use Rattle.recording.specs.declared.walk.Walked as code-walked
 use Rattle.rules.specs.Scan.{Sought}
 use Rattle.rules.specs.Recording.{leafEntry, Became, Became.stands, Became.split, Became.emptied, Became.again, Walked, walkDown, startAgainBy, plusStruck, fromRoot, Rooted, newRootAt, putRootRight, oneEntry, collapseBy, collapse}
 use Rattle.recording.specs.WalkSteps.{MayWalk, may-walk-on}

@@ -6,10 +6,10 @@ use lib.ListN.{length}
 use Rattle.pages.specs.Layout.{pagesOf}
 use Rattle.pages.specs.declared.Page.{Page}
 use Rattle.wellformed.specs.WellFormed.{mostAccepted}
-use Rattle.recording.specs.declared.Became as code-became
-use Rattle.recording.specs.declared.Became.the-variants as case
-use Rattle.recording.specs.declared.Sought as code-sought
-use Rattle.recording.specs.declared.Walked as code-walked
+use Rattle.recording.specs.declared.settle.Became as code-became
+use Rattle.recording.specs.declared.settle.Became.the-variants as case
+use Rattle.recording.specs.declared.scan.Sought as code-sought
+use Rattle.recording.specs.declared.walk.Walked as code-walked
 use Rattle.rules.specs.Strike.{Struck}
 use Rattle.rules.specs.Scan.{Sought}
 use Rattle.rules.specs.Recording.{Became, Became.stands, Became.split, Became.emptied, Became.again, Walked}

@@ -17,10 +17,10 @@ use Rattle.sieve.specs.Sieve.{IsSieve, sieveOf, questionOf}
 use Rattle.sieve.specs.SieveLaws.{sieve-is, question-of}
 use Rattle.split.specs.Split.{pageFrom}
 use Rattle.wellformed.specs.WellFormed.{page}
-use Rattle.recording.specs.declared.Became as code-became
-use Rattle.recording.specs.declared.Became.the-variants as case
-use Rattle.recording.specs.declared.Sought as code-sought
-use Rattle.recording.specs.declared.Walked as code-walked
+use Rattle.recording.specs.declared.settle.Became as code-became
+use Rattle.recording.specs.declared.settle.Became.the-variants as case
+use Rattle.recording.specs.declared.scan.Sought as code-sought
+use Rattle.recording.specs.declared.walk.Walked as code-walked
 use Rattle.recording.specs.LowSteps.{Low, walk-low}
 use Rattle.pages.specs.FreeLaws.{NoneFree}
 use Rattle.recording.specs.LookSteps.{Within, Sees, scan-index}

@@ -1,8 +1,7 @@
 // The root: starting again, the new root above a split one, and the collapse.
-use crate::Became;
-use crate::Sought;
-use crate::Walked;
 use crate::page::leaf_entry;
+use crate::scan::Sought;
+use crate::settle::Became;
 use crate::strike::more_struck;
 use crate::table::blank_page;
 use crate::table::child_lying;
@@ -12,6 +11,7 @@ use crate::table::release;
 use crate::table::store;
 use crate::table::summary;
 use crate::table::used_at;
+use crate::walk::Walked;
 use crate::walk::walk_down;
 use ground::Box;
 use pages::FreePage;

@@ -1,5 +1,4 @@
 // Settling a page: it is stored, or split if it has nine entries.
-use crate::Became;
 use crate::page::take_out;
 use crate::table::child_lying;
 use crate::table::load;
@@ -27,6 +26,15 @@ ghost use Rattle.recording.specs.LowSteps.{NoneBut, Low};
 ghost use Rattle.recording.specs.SettleSteps.{Settles, settled, cameBack};
 ghost use Rattle.recording.specs.TidyLaws.{TidyPage};
 ghost use Rattle.recording.specs.Views.{Leaves, becameOf};
+
+// What became of a page: it stands; it was split, and this page took the second group; it was left with no entry;
+// or the record starts again at the root.
+pub enum Became {
+    Stands,
+    Split(u16),
+    Emptied,
+    Again,
+}
 
 // Where the search for a free page begins: a page of level 0 that is split could itself be the lowest.
 fn begin_at(level: u16, from: usize) -> usize

@@ -1,12 +1,11 @@
 // Recording on a book known to be sound: the walk, the root put right, and the small record.
-use crate::Answered;
 use crate::Outcome;
-use crate::Sought;
-use crate::Walked;
 use crate::root::collapse;
 use crate::root::from_root;
 use crate::root::put_root_right;
+use crate::scan::Sought;
 use crate::table::level_of;
+use crate::walk::Walked;
 use ground::Box;
 use pages::Small;
 ghost use mathlib.Core.Bool.{true, cond};
@@ -20,6 +19,13 @@ ghost use Rattle.rules.specs.RecordLaws.{Accepted};
 ghost use Rattle.rules.specs.Recording.{outcomeOf, recorded};
 ghost use Rattle.recording.specs.RecordSteps.{outcomeIs, SmallMade};
 ghost use Rattle.recording.specs.Views.{mostStruck, soughtOf};
+
+// The answer with the struck count, and the small record afterwards.
+pub struct Answered {
+    pub outcome: Outcome,
+    pub struck: u32,
+    pub small: Small,
+}
 
 fn outcome_of(s: Sought) -> Outcome
     ensures { λ r. ⌜ outcomeIs r ≡ outcomeOf (soughtOf s) ⌝ }

@@ -1,11 +1,10 @@
 // The walk from the root down and back: strike, scan, choose, go down one level, come back.
-use crate::Became;
-use crate::Sought;
-use crate::Walked;
 use crate::choose::choose_at;
 use crate::look::scan_index;
 use crate::look::scan_leaf;
 use crate::page::leaf_entry;
+use crate::scan::Sought;
+use crate::settle::Became;
 use crate::settle::append_at;
 use crate::settle::come_back;
 use crate::strike::more_struck;
@@ -22,6 +21,13 @@ ghost use Rattle.recording.specs.SettleSteps.{Settles};
 ghost use Rattle.recording.specs.TidyLaws.{TidyPage};
 ghost use Rattle.recording.specs.Views.{soughtOf, Walks};
 ghost use Rattle.recording.specs.WalkSteps.{MayWalk};
+
+// What the walk at a page hands back.
+pub struct Walked {
+    pub became: Became,
+    pub sought: Sought,
+    pub struck: u32,
+}
 
 // What is left of the record is appended to the leaf, unless it is covered.
 fn append_left(t: &mut [u16], v: u16, p: usize, found: Sought) -> Became
