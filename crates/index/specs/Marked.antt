@@ -19,7 +19,7 @@ use Rattle.split.specs.Split.{pageFrom}
 use Rattle.wellformed.specs.WellFormed.{everyBelow, times, children, walk, leafEntries, heldRecords, rootStands, isLower, childrenLower, reachedOnce, countStands, leafEntryStands, isExact, entriesStand, pageStands, countsStand, pagesStand, wellFormed}
 use Rattle.rules.specs.Strike.{select, strikeAll, strikeOne, strike}
 use Rattle.rules.specs.Scan.{candidate, scanEntry, scan}
-use Rattle.rules.specs.Recording.{growth, goesBefore, leastGrown, choose, leafEntry, splitPage, settle, exactAt, comeBack, append, goDown, goOn, atPage, walkDown, fromRoot, collapse, Outcome, Outcome.Kept, Outcome.Cut, Outcome.Covered, recorded}
+use Rattle.rules.specs.Recording.{growth, goesBefore, leastGrown, choose, leafEntry, splitPage, settle, exactAt, comeBack, append, goDown, goOn, walkDown, fromRoot, collapse, Outcome, Outcome.Kept, Outcome.Cut, Outcome.Covered, recorded}
 use Rattle.rules.specs.Record.{Called, Reply.Refused, Reply.Answered, refusal, recordInto, refused}
 use Rattle.index.specs.Calls.{counted}
 use Rattle.index.specs.declared.Counted.the-variants.{Counts}
@@ -75,5 +75,5 @@ pub record Transcript : Type 0 where
   pub line-8 : counted (table two) (small 4 1 1) ≡ Counts 4 2 1 1
 
 pub transcript : Transcript
-unfolding recordInto refusal recorded fromRoot collapse walkDown atPage goOn goDown append comeBack exactAt settle splitPage choose leastGrown goesBefore growth scan scanEntry candidate strike strikeOne strikeAll select cut cutsOn coversOneEnd left leftOn xor covers touches join size summaryOf summary covering firstGreatest leastOf lowestFrom freeCount pageFrom wellFormed pagesStand rootStands everyBelow childrenLower isLower children every reachedOnce times walk pageStands countStands entriesStand leafEntryStands isExact sameWords countsStand heldRecords leafEntries flatMap legal tableOf pagesOf cutPages pageOf entriesOf entryAt boxAt wordsOfPage wordsOfEntries wordsOfEntry wordsOfBox asked searchBook searchPage searchOpened searchOne searchRecord raised inOrder mayOpen askedBy counted
+unfolding recordInto refusal recorded fromRoot collapse walkDown goOn goDown append comeBack exactAt settle splitPage choose leastGrown goesBefore growth scan scanEntry candidate strike strikeOne strikeAll select cut cutsOn coversOneEnd left leftOn xor covers touches join size summaryOf summary covering firstGreatest leastOf lowestFrom freeCount pageFrom wellFormed pagesStand rootStands everyBelow childrenLower isLower children every reachedOnce times walk pageStands countStands entriesStand leafEntryStands isExact sameWords countsStand heldRecords leafEntries flatMap legal tableOf pagesOf cutPages pageOf entriesOf entryAt boxAt wordsOfPage wordsOfEntries wordsOfEntry wordsOfBox asked searchBook searchPage searchOpened searchOne searchRecord raised inOrder mayOpen askedBy counted
 transcript = record { line-1 = refl; line-2 = refl; line-3 = refl; line-4 = refl; line-5 = refl; line-6 = refl; line-7 = refl; line-8 = refl }

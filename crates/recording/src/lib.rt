@@ -4,7 +4,6 @@
 mod call;
 mod choose;
 mod look;
-mod page;
 mod refusal;
 mod root;
 mod scan;

@@ -10,7 +10,7 @@ use ground::Box;
 use pages::Small;
 ghost use mathlib.Core.Bool.{true, cond};
 ghost use mathlib.Core.Path.{_≡_};
-ghost use Prim.Native.Nat.{_+_, _≤_};
+ghost use Prim.Native.Nat.{_+_, _≤_, _<_};
 ghost use Rattle.pages.specs.Layout.{tableFits, pagesOf};
 ghost use Rattle.wellformed.specs.WellFormed.{mostAccepted};
 ghost use Rattle.recording.specs.CallSteps.{answeredOf};
@@ -47,7 +47,7 @@ fn one_if(c: bool) -> u32
 
 // Accepted rises by one, struck by the count, covered by one for Covered; the height is the root page's level.
 fn small_after(t: &[u16], s: Small, w: Walked, root: u16) -> Small
-    requires { ⌜ (tableFits (now t) ≡ true) × (s .accepted ≤ mostAccepted) × (s .struck ≤ mostAccepted) × (s .covered ≤ mostAccepted) × (w .struck ≤ mostStruck) ⌝ }
+    requires { ⌜ (tableFits (now t) ≡ true) × (s .accepted < mostAccepted) × (s .struck ≤ mostAccepted) × (s .covered ≤ mostAccepted) × (w .struck ≤ mostStruck) ⌝ }
     ensures { λ r. ⌜ SmallMade (now (t .entry)) s w root r ⌝ }
 {
     let level = level_of(t, root);
@@ -70,7 +70,7 @@ pub fn recorded(t: &mut [u16], s: Small, b: Box, v: u16) -> Answered
     let w = from_root(t, height - 1, v, root as usize, Sought::handed_in(b));
     let became = w.became;
     let sought = w.sought;
-    let top = put_root_right(t, became, root, v, sought);
+    let top = put_root_right(t, became, root);
     let last = collapse(t, height, top);
     let small = small_after(t, s, w, last);
     Answered {
