@@ -24,7 +24,7 @@ use Rattle.rules.specs.Examples.{Report, run as inTurn, nine-in-a-row as nine-b
 use Rattle.rules.specs.EmptyBook.{empty-well-formed}
 use Rattle.rules.specs.Strike.{select, strikeAll, strikeOne, strike}
 use Rattle.rules.specs.Scan.{candidate, scanEntry, scan}
-use Rattle.rules.specs.Recording.{growth, goesBefore, leastGrown, choose, leafEntry, splitPage, settle, exactAt, comeBack, append, goDown, goOn, atPage, walkDown, fromRoot, collapse, Outcome, Outcome.Kept, Outcome.Cut, Outcome.Covered, recorded}
+use Rattle.rules.specs.Recording.{growth, goesBefore, leastGrown, choose, leafEntry, splitPage, settle, exactAt, comeBack, append, goDown, goOn, walkDown, fromRoot, collapse, Outcome, Outcome.Kept, Outcome.Cut, Outcome.Covered, recorded}
 use Rattle.rules.specs.Record.{Called, Reply.Refused, Reply.Answered, refusal, recordInto, refused}
 use Rattle.index.specs.Calls.{countAnswer, CountSaid.Numbers}
 use Rattle.index.specs.Run.{Book, run}
@@ -76,7 +76,7 @@ pub record Transcript : Type 0 where
   pub line-8 : countAnswer (table two) (small 4 1 1) ≡ Numbers 4 2 1 1
 
 pub transcript : Transcript
-unfolding recordInto refusal recorded fromRoot collapse walkDown atPage goOn goDown append comeBack exactAt settle splitPage choose leastGrown goesBefore growth scan scanEntry candidate strike strikeOne strikeAll select cut cutsOn coversOneEnd left leftOn xor covers touches join size summaryOf summary covering firstGreatest leastOf lowestFrom freeCount pageFrom wellFormed pagesStand rootStands everyBelow childrenLower isLower children every reachedOnce times walk pageStands countStands entriesStand leafEntryStands isExact sameWords countsStand heldRecords leafEntries flatMap legal tableOf pagesOf cutPages pageOf entriesOf entryAt boxAt wordsOfPage wordsOfEntries wordsOfEntry wordsOfBox asked searchBook searchPage searchOpened searchOne searchRecord raised inOrder mayOpen askedBy
+unfolding recordInto refusal recorded fromRoot collapse walkDown goOn goDown append comeBack exactAt settle splitPage choose leastGrown goesBefore growth scan scanEntry candidate strike strikeOne strikeAll select cut cutsOn coversOneEnd left leftOn xor covers touches join size summaryOf summary covering firstGreatest leastOf lowestFrom freeCount pageFrom wellFormed pagesStand rootStands everyBelow childrenLower isLower children every reachedOnce times walk pageStands countStands entriesStand leafEntryStands isExact sameWords countsStand heldRecords leafEntries flatMap legal tableOf pagesOf cutPages pageOf entriesOf entryAt boxAt wordsOfPage wordsOfEntries wordsOfEntry wordsOfBox asked searchBook searchPage searchOpened searchOne searchRecord raised inOrder mayOpen askedBy
 transcript = record { line-1 = refl; line-2 = refl; line-3 = refl; line-4 = refl; line-5 = refl; line-6 = refl; line-7 = refl; line-8 = refl }
 
 -- Held 15 to 20, new 10 to 29 weaker, other axes equal: not cut, since two ends would stay. The new one is stored whole beside the held one.
@@ -91,7 +91,7 @@ pub record TwoEnds : Type 0 where
   pub weaker : recordInto (table short) (small 1 0 0) (over 10 29 10 19 7_305 7_314) 249 ≡ says Kept 0 both (small 2 0 0)
 
 pub two-ends-stay : TwoEnds
-unfolding recordInto refusal recorded fromRoot collapse walkDown atPage goOn goDown append comeBack exactAt settle splitPage choose leastGrown goesBefore growth scan scanEntry candidate strike strikeOne strikeAll select cut cutsOn coversOneEnd left leftOn xor covers touches join size summaryOf summary covering firstGreatest leastOf lowestFrom freeCount pageFrom wellFormed pagesStand rootStands everyBelow childrenLower isLower children every reachedOnce times walk pageStands countStands entriesStand leafEntryStands isExact sameWords countsStand heldRecords leafEntries flatMap legal tableOf pagesOf cutPages pageOf entriesOf entryAt boxAt wordsOfPage wordsOfEntries wordsOfEntry wordsOfBox
+unfolding recordInto refusal recorded fromRoot collapse walkDown goOn goDown append comeBack exactAt settle splitPage choose leastGrown goesBefore growth scan scanEntry candidate strike strikeOne strikeAll select cut cutsOn coversOneEnd left leftOn xor covers touches join size summaryOf summary covering firstGreatest leastOf lowestFrom freeCount pageFrom wellFormed pagesStand rootStands everyBelow childrenLower isLower children every reachedOnce times walk pageStands countStands entriesStand leafEntryStands isExact sameWords countsStand heldRecords leafEntries flatMap legal tableOf pagesOf cutPages pageOf entriesOf entryAt boxAt wordsOfPage wordsOfEntries wordsOfEntry wordsOfBox
 two-ends-stay = record { held = refl; weaker = refl }
 
 -- Nine records of gust 100, one cell each, north 0, day 0, east 0, 10 .. 80 in order, as calls on the program's 180 pages, cleared.
@@ -119,7 +119,7 @@ ninePages =
     ∷ replicate 177 freePage
 
 none-refused : allPass (emptyLeaf ∷ replicate 179 freePage) emptySmall reports ≡ true
-unfolding allPass passOne recorded fromRoot collapse walkDown atPage goOn goDown append comeBack exactAt settle splitPage choose leastGrown goesBefore growth scan scanEntry candidate strike strikeOne strikeAll select cut cutsOn coversOneEnd left leftOn xor covers touches join size summaryOf summary covering firstGreatest leastOf lowestFrom freeCount halves pageFrom begin seeds places pairs pairsWith mostWasteful wastesMore placeAll place takes next firstMost growthsDiffer groupGrowth secondTakes legal
+unfolding allPass passOne recorded fromRoot collapse walkDown goOn goDown append comeBack exactAt settle splitPage choose leastGrown goesBefore growth scan scanEntry candidate strike strikeOne strikeAll select cut cutsOn coversOneEnd left leftOn xor covers touches join size summaryOf summary covering firstGreatest leastOf lowestFrom freeCount halves pageFrom begin seeds places pairs pairsWith mostWasteful wastesMore placeAll place takes next firstMost growthsDiffer groupGrowth secondTakes legal
 none-refused = refl
 
 pub nine-in-a-row : nine ≡ record { table = tableOf ninePages; small = record { root = 2; height = 2; accepted = 9; struck = 0; covered = 0 } }

@@ -1,8 +1,8 @@
--- `recording::page::leaf_entry` meets its contract.
+-- `recording::walk::leaf_entry` meets its contract.
 use Rattle.pages.specs.declared.Entry.{Entry}
 use mathlib.Core.Path.{ap}
-use Rattle.recording.proofs.page.leaf_entry.Statement.{statement}
-use Rattle.recording.proofs.page.leaf_entry.Tie as tie
+use Rattle.recording.proofs.walk.leaf_entry.Statement.{statement}
+use Rattle.recording.proofs.walk.leaf_entry.Tie as tie
 
 zero-entry-requires : tie.Need-zero-entry-requires
 zero-entry-requires c κs = tt

@@ -1,10 +1,10 @@
--- `recording::Sought::met` meets its contract.
+-- `recording::scan::Sought::met` meets its contract.
 use Rattle.ground.specs.declared.boxes.Cut.the-variants.{Covered, Left, Unchanged}
 use Rattle.recording.specs.Views.{soughtOf}
 use Rattle.recording.specs.ScanSteps.{met-as}
 use borrow.Author.Needs.{needs}
-use Rattle.recording.proofs.Sought.met.Statement.{statement}
-use Rattle.recording.proofs.Sought.met.Tie as tie
+use Rattle.recording.proofs.scan.Sought.met.Statement.{statement}
+use Rattle.recording.proofs.scan.Sought.met.Tie as tie
 
 enum-told : tie.Need-enum-told
 enum-told c = search needs

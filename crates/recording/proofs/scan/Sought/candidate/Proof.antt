@@ -1,8 +1,8 @@
--- `recording::Sought::candidate` meets its contract.
+-- `recording::scan::Sought::candidate` meets its contract.
 use Rattle.recording.specs.Views.{soughtOf}
 use Rattle.recording.specs.ScanSteps.{is-covered, no-candidate, a-candidate}
-use Rattle.recording.proofs.Sought.candidate.Statement.{statement}
-use Rattle.recording.proofs.Sought.candidate.Tie as tie
+use Rattle.recording.proofs.scan.Sought.candidate.Statement.{statement}
+use Rattle.recording.proofs.scan.Sought.candidate.Tie as tie
 
 returns : tie.Need-returns
 returns c = is-covered (soughtOf (c .before .args .self)) _ _ (c .if1 .taken)
