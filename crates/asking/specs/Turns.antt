@@ -296,8 +296,8 @@ module _ (ps : List Page) (q : Box) (e : Entry) (n child best opened : ℕ) (sma
   pub entry-opened : (s : Search) → mayOpen ps n 1 child opened ≡ true → s ≡ searchedIn ps q (n - 1) child best (opened + 1) → s ≡ searchEntry (searchPage ps q n 1) q e (seenAs best opened)
   entry-opened s m k = k ∙ sym (opened-page ps q n 1 child best opened m) ∙ sym (entry-open (searchPage ps q n 1) q e best opened small child h)
 
-  pub entry-refused : (b o : ℕ) → mayOpen ps n 1 child opened ≡ false → b ≡ 65_537 → seenAs b o ≡ searchEntry (searchPage ps q n 1) q e (seenAs best opened)
-  entry-refused b o m k = seen-refused b o (omega arith) ∙ sym (refused-page ps q n 1 child best opened m) ∙ sym (entry-open (searchPage ps q n 1) q e best opened small child h)
+  pub entry-refused : (b o : ℕ) → mayOpen ps n 1 child opened ≡ false → mostBest < b → seenAs b o ≡ searchEntry (searchPage ps q n 1) q e (seenAs best opened)
+  entry-refused b o m k = seen-refused b o k ∙ sym (refused-page ps q n 1 child best opened m) ∙ sym (entry-open (searchPage ps q n 1) q e best opened small child h)
 
 pub open-low : (q : Box) (e : Entry) (best child : ℕ) → e .gust < mostBest → Open child ≡ step q e best → best ≤ mostBest
 open-low q e best child small h = entry-low (λ p b o. refused) q e best 0 small child h
@@ -316,9 +316,9 @@ root-opened ps s q w r p m k =
     ∙ ap (λ b. searchedIn ps b (s .height - 1) (s .root) 0 1) (ap questionOf p ∙ question-of q)
     ∙ sym (opened-page ps q (s .height) (leastRoot (s .height)) (s .root) 0 0 m)
 
-pub root-refused : (ps : List Page) (s : Small) (q : Box) (b o : ℕ) → mayOpen ps (s .height) (leastRoot (s .height)) (s .root) 0 ≡ false → b ≡ 65_537 → seenAs b o ≡ searchBook ps s q
+pub root-refused : (ps : List Page) (s : Small) (q : Box) (b o : ℕ) → mayOpen ps (s .height) (leastRoot (s .height)) (s .root) 0 ≡ false → mostBest < b → seenAs b o ≡ searchBook ps s q
 unfolding searchBook
-root-refused ps s q b o m k = seen-refused b o (omega arith) ∙ sym (refused-page ps q (s .height) (leastRoot (s .height)) (s .root) 0 0 m)
+root-refused ps s q b o m k = seen-refused b o k ∙ sym (refused-page ps q (s .height) (leastRoot (s .height)) (s .root) 0 0 m)
 
 -- the answer: refusals 1 and 2, and what the search has come to
 pub asked-no-table : (t : List ℕ) (s : Small) (q : Box) (f : Bool) → f ≡ tableFits t → not f ≡ true → Refused 1 ≡ asked t s q

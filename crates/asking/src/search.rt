@@ -34,6 +34,7 @@ pub enum Step {
 }
 
 impl Found {
+    // The best of the greatest word.
     const MOST: u64 = 65536;
 
     pub fn answer(self) -> Asked
@@ -55,7 +56,7 @@ impl Found {
     }
 
     fn refused() -> Found
-        ensures { λ r. ⌜ r .best ≡ 65537 ⌝ }
+        ensures { λ r. ⌜ mostBest < r .best ⌝ }
     {
         Found {
             best: Found::MOST + 1,
@@ -83,7 +84,7 @@ fn may_open(t: &[u16], level: u32, least: u16, p: u32, opened: u64) -> bool
 }
 
 // The best after a leaf entry.
-fn raise(t: &[u16], p: usize, i: usize, q: &[u16; 32], best: u64) -> u64
+fn raise(t: &[u16], p: usize, i: usize, q: &[u16; sieve::WORDS], best: u64) -> u64
     requires { ⌜ InTable (now t) p × (i < pageEntries) × IsSieve (now q) × (best ≤ mostBest) ⌝ }
     ensures { λ r. ⌜ Raised (raised (questionOf (now (q .entry))) (entryIn (now (t .entry)) p i) best) r ⌝ }
 {
@@ -96,7 +97,7 @@ fn raise(t: &[u16], p: usize, i: usize, q: &[u16; 32], best: u64) -> u64
 }
 
 // The best after all entries of a leaf.
-fn search_leaf(t: &[u16], p: usize, q: &[u16; 32], best: u64) -> u64
+fn search_leaf(t: &[u16], p: usize, q: &[u16; sieve::WORDS], best: u64) -> u64
     requires { ⌜ OpenedPage (now t) p (now q) best ⌝ }
     ensures { λ r. ⌜ Raised (raisedBy (questionOf (now (q .entry))) (inUse (page (pagesOf (now (t .entry))) p)) best) r ⌝ }
 {
@@ -111,7 +112,7 @@ fn search_leaf(t: &[u16], p: usize, q: &[u16; 32], best: u64) -> u64
 }
 
 // What becomes of an index entry, as far as its own words tell.
-fn decide(t: &[u16], p: usize, i: usize, q: &[u16; 32], best: u64) -> Step
+fn decide(t: &[u16], p: usize, i: usize, q: &[u16; sieve::WORDS], best: u64) -> Step
     requires { ⌜ InTable (now t) p × (i < pageEntries) × IsSieve (now q) ⌝ }
     ensures { λ r. ⌜ r ≡ step (questionOf (now (q .entry))) (entryIn (now (t .entry)) p i) best ⌝ }
 {
@@ -126,7 +127,14 @@ fn decide(t: &[u16], p: usize, i: usize, q: &[u16; 32], best: u64) -> Step
 }
 
 // The search of page p, which has been opened: its entries in order.
-fn search_page(t: &[u16], p: usize, level: u32, q: &[u16; 32], best: u64, opened: u64) -> Found
+fn search_page(
+    t: &[u16],
+    p: usize,
+    level: u32,
+    q: &[u16; sieve::WORDS],
+    best: u64,
+    opened: u64,
+) -> Found
     requires { ⌜ OpenedPage (now t) p (now q) best × (1 ≤ level) ⌝ }
     ensures { λ r. ⌜ seen r ≡ searchedIn (pagesOf (now (t .entry))) (questionOf (now (q .entry))) (level - 1) p best opened ⌝ }
 {
@@ -147,7 +155,14 @@ fn search_page(t: &[u16], p: usize, level: u32, q: &[u16; 32], best: u64, opened
 }
 
 // The search of entry i of an index page.
-fn search_entry(t: &[u16], p: usize, i: usize, level: u32, q: &[u16; 32], found: Found) -> Found
+fn search_entry(
+    t: &[u16],
+    p: usize,
+    i: usize,
+    level: u32,
+    q: &[u16; sieve::WORDS],
+    found: Found,
+) -> Found
     requires { ⌜ OpenedEntry (now t) p i (now q) × (2 ≤ level) ⌝ }
     ensures { λ r. ⌜ seen r ≡ searchEntry (searchPage (pagesOf (now (t .entry))) (questionOf (now (q .entry))) (level - 1) 1) (questionOf (now (q .entry))) (entryIn (now (t .entry)) p i) (seen found) ⌝ }
 {
