@@ -20,7 +20,7 @@ use Rattle.pages.specs.declared.Entry.{Entry}
 use Rattle.pages.specs.declared.Page.{Page}
 use Rattle.pages.specs.declared.Small.{Small}
 use Rattle.wellformed.specs.WellFormed.{page}
-use Rattle.asking.specs.Asking.{Search, refused, found, raised, passedOver, step, follow, searchEntry, searchRecord, searchOne, inOrder, mayOpen, searchOpened, searchPage, leastRoot, searchBook, answered, asked}
+use Rattle.asking.specs.Asking.{Search, refused, found, raised, passedOver, step, follow, searchEntry, searchRecord, searchOne, inOrder, mayOpen, searchOpened, searchPage, leastRoot, searchBook, answered, asked, says, refusedBy, toldBy, told}
 use Rattle.sieve.specs.Sieve.{sieveOf, questionOf, IsSieve}
 use Rattle.sieve.specs.SieveLaws.{Words, sieve-is, question-of}
 use Rattle.asking.specs.Seen.{mostBest, seenAs, raisedBy, Raised, searchedIn, OpenedPage}
@@ -332,3 +332,22 @@ asked-no-box t s q f l p h r k = rw (sym p ∙ not-false f h, sym r ∙ not-true
 pub asked-found : (t : List ℕ) (s : Small) (q : Box) (f l : Bool) (so : Search) (r : Asked) → f ≡ tableFits t → not f ≡ false → l ≡ legal q → not l ≡ false → so ≡ searchBook (pagesOf t) s q → r ≡ answered so → r ≡ asked t s q
 unfolding asked
 asked-found t s q f l so r p h u k n a = rw (sym p ∙ not-false f h, sym u ∙ not-false l k, ← n) a
+
+-- the answer in document 01's numbers
+says-answered : (x : Search) → says (answered x) ≡ toldBy x
+unfolding answered toldBy
+says-answered refused = refl
+says-answered (found zero opened) = refl
+says-answered (found (suc gust) opened) = rw (add-one gust)
+
+pub says-told : (t : List ℕ) (s : Small) (q : Box) → says (asked t s q) ≡ told t s q
+unfolding asked told
+says-told t s q = by-tests (tableFits t) (legal q)
+  where
+    by-tests : (f l : Bool) → says (cond f (cond l (answered (searchBook (pagesOf t) s q)) (Refused 2)) (Refused 1)) ≡ cond f (cond l (toldBy (searchBook (pagesOf t) s q)) (refusedBy 2)) (refusedBy 1)
+    by-tests true true = says-answered (searchBook (pagesOf t) s q)
+    by-tests true false = refl
+    by-tests false l = refl
+
+pub told-so : (t : List ℕ) (s : Small) (q : Box) (r : Asked) → r ≡ asked t s q → (r ≡ asked t s q) × (says r ≡ told t s q)
+told-so t s q r e = (e, ap says e ∙ says-told t s q)
