@@ -105,11 +105,13 @@ search-entry-add-search-page t c =
 
 search-entry-search-page-requires : (t : ℕ) → search-entry-lts.Need-search-page-requires (entry-calls t) (search-entry-at t) search-entry.Post
 search-entry-search-page-requires t c κs =
-    let h = c .before .before .before .before .before .before .before .pre .1 .0 in
+    let words = c .before .before .before .before .before .before in
+    let start = words .before in
+    let h = start .pre .1 .0 in
     let m = sym (c .before .may-open .ensures) ∙ c .if1 .taken in
-    let w : Words (c .before .before .before .before .before .before .before .args .t .now) = record { small = λ k. omega (arith, c .before .before .before .before .before .before .shared-slice-known .given k) } in
+    let w : Words (start .args .t .now) = record { small = λ k. omega (arith, words .shared-slice-known .given k) } in
     let s = sym (c .before .before .before .child .given .1) ∙ c .before .before .before .before .before .decide .ensures in (
-      omega (arith, c .before .before .before .before .before .before .before .pre .0, c .before .before .before .before .before .before .before .pre .1 .1),
+      omega (arith, start .pre .0, start .pre .1 .1),
       (opened-record _ _ _ _ _ _ _ (h .fits) (h .sieve) (open-low _ _ _ _ (gust-small _ _ _ w) s) m, opened-some _ _ _ _ _ m),
     )
 
@@ -121,20 +123,29 @@ search-entry-returns t c = entry-pass _ _ _ _ _ (sym (c .enum-told .given .1) �
 
 search-entry-returns-2 : (t : ℕ) → search-entry-lts.Need-returns-2 (entry-calls t) (search-entry-at t) search-entry.Post
 search-entry-returns-2 t c =
-    let w : Words (c .before .before .before .before .before .args .t .now) = record { small = λ k. omega (arith, c .before .before .before .before .shared-slice-known .given k) } in
+    let words = c .before .before .before .before in
+    let w : Words (words .before .args .t .now) = record { small = λ k. omega (arith, words .shared-slice-known .given k) } in
     entry-raise _ _ _ _ _ (gust-small _ _ _ w) _ (omega (arith, c .known-told .given)) (sym (c .before .gust .given .1) ∙ c .before .before .before .decide .ensures)
 
 search-entry-returns-3 : (t : ℕ) → search-entry-lts.Need-returns-3 (entry-calls t) (search-entry-at t) search-entry.Post
 search-entry-returns-3 t c =
     let m = sym (c .before .before .may-open .ensures) ∙ c .before .if1 .taken in
-    let w : Words (c .before .before .before .before .before .before .before .before .args .t .now) = record { small = λ k. omega (arith, c .before .before .before .before .before .before .before .shared-slice-known .given k) } in
-    entry-opened _ _ _ _ _ _ _ (gust-small _ _ _ w) (sym (c .before .before .before .before .child .given .1) ∙ c .before .before .before .before .before .before .decide .ensures) _ m (c .search-page .ensures)
+    let opening = c .before .before .before .before in
+    let decided = opening .before .before in
+    let words = decided .before in
+    let w : Words (words .before .args .t .now) = record { small = λ k. omega (arith, words .shared-slice-known .given k) } in
+    let s = sym (opening .child .given .1) ∙ decided .decide .ensures in
+    entry-opened _ _ _ _ _ _ _ (gust-small _ _ _ w) s _ m (c .search-page .ensures)
 
 search-entry-returns-4 : (t : ℕ) → search-entry-lts.Need-returns-4 (entry-calls t) (search-entry-at t) search-entry.Post
 search-entry-returns-4 t c =
     let m = sym (c .before .before .may-open .ensures) ∙ c .before .if1 .left in
-    let w : Words (c .before .before .before .before .before .before .before .before .args .t .now) = record { small = λ k. omega (arith, c .before .before .before .before .before .before .before .shared-slice-known .given k) } in
-    entry-refused _ _ _ _ _ _ _ (gust-small _ _ _ w) (sym (c .before .before .before .before .child .given .1) ∙ c .before .before .before .before .before .before .decide .ensures) _ _ m (c .refused .ensures)
+    let opening = c .before .before .before .before in
+    let decided = opening .before .before in
+    let words = decided .before in
+    let w : Words (words .before .args .t .now) = record { small = λ k. omega (arith, words .shared-slice-known .given k) } in
+    let s = sym (opening .child .given .1) ∙ decided .decide .ensures in
+    entry-refused _ _ _ _ _ _ _ (gust-small _ _ _ w) s _ _ m (c .refused .ensures)
 
 abbrev search-page-Inv-loop : search-page-lts.InvT-loop
 search-page-Inv-loop t p level q best opened places many found₀ k₀ found k =
@@ -168,10 +179,12 @@ search-page-place-after-requires t c κs = let v = c .before .before .loop .inv 
 
 search-page-search-entry-requires : (t : ℕ) → search-page-lts.Need-search-entry-requires (page-calls t) (search-page-at t) search-page.Post search-page-Inv-loop search-page-μ-loop
 search-page-search-entry-requires t c κs =
-    let v = c .before .before .before .loop .inv in
+    let turn = c .before .before .before in
+    let v = turn .loop .inv in
     let h = v .0 in
-    let f = v .2 .each (c .before .before .before .loop .k) (c .before .before .loop-test .taken) in
-    (omega (arith, c .before .before .before .before .before .before .before .before .pre .0), (record { fits = h .fits; here = h .here; sieve = h .sieve; followed = rw (c .place-after .ensures) f }, v .1))
+    let f = v .2 .each (turn .loop .k) (c .before .before .loop-test .taken) in
+    let falls = turn .before .before .before .before .before .pre .0 in
+    (omega (arith, falls), (record { fits = h .fits; here = h .here; sieve = h .sieve; followed = rw (c .place-after .ensures) f }, v .1))
 
 search-page-add-k : (t : ℕ) → search-page-lts.Need-add-k (page-calls t) (search-page-at t) search-page.Post search-page-Inv-loop search-page-μ-loop
 search-page-add-k t c = search needs
