@@ -109,3 +109,14 @@ abbrev pub says : Asked → Said
 says (Refused number) = record { refusal = number; best = 0; pages = 0 }
 says (Nothing pages) = record { refusal = 0; best = 0; pages = pages }
 says (Gust gust pages) = record { refusal = 0; best = gust + 1; pages = pages }
+
+abbrev pub refusedBy : ℕ → Said
+refusedBy number = record { refusal = number; best = 0; pages = 0 }
+
+-- The whole call in these numbers: refusals 1, 2 and 4, in this order; else the best gust or Nothing, and the pages opened.
+unfoldable pub toldBy : Search → Said
+toldBy refused = refusedBy 4
+toldBy (found best opened) = record { refusal = 0; best = best; pages = opened }
+
+unfoldable pub told : List ℕ → Small → Box → Said
+told t s q = cond (tableFits t) (cond (legal q) (toldBy (searchBook (pagesOf t) s q)) (refusedBy 2)) (refusedBy 1)

@@ -1,5 +1,6 @@
 -- Document 01, "Asking": the definition of the answer, and the laws that the storeys above cite.
 pub mod Asking
+pub mod Gathering
 pub mod Seen
 pub mod Turns
 pub mod Bounded

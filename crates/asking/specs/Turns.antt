@@ -7,7 +7,7 @@ use native.Mathlib.Numerals.{add-one}
 use native.Mathlib.Omega.{arith}
 use borrow.Author.Tests.{leb-true, le-leb, lt-leb, leb-false, lt-ltb, le-ltb, ltb-true, ltb-false, eq-eqb, eqb-true, not-true, not-false}
 use lib.Dec.{leb, ltb, eqb}
-use lib.ListN.{length, getD, drop, drop-of-length-le}
+use lib.ListN.{length, getD, take, drop, drop-of-length-le}
 use lib.Seq.{drop-cons, getD-take, length-take-le}
 use Rattle.ground.specs.Boxes.{touches, covers, legal}
 use Rattle.ground.specs.Tests.{both, three, orders}
@@ -20,9 +20,10 @@ use Rattle.pages.specs.declared.Entry.{Entry}
 use Rattle.pages.specs.declared.Page.{Page}
 use Rattle.pages.specs.declared.Small.{Small}
 use Rattle.wellformed.specs.WellFormed.{page}
-use Rattle.asking.specs.Asking.{Search, refused, found, raised, passedOver, step, follow, searchEntry, searchRecord, searchOne, inOrder, mayOpen, searchOpened, searchPage, leastRoot, searchBook, answered, asked}
+use Rattle.asking.specs.Asking.{Search, refused, found, raised, passedOver, step, follow, searchEntry, searchRecord, searchOne, inOrder, mayOpen, searchOpened, searchPage, leastRoot, searchBook, answered, asked, says, refusedBy, toldBy, told}
 use Rattle.sieve.specs.Sieve.{sieveOf, questionOf, IsSieve}
 use Rattle.sieve.specs.SieveLaws.{Words, sieve-is, question-of}
+use Rattle.asking.specs.Gathering.{Gathered, entriesAt, gathered-enough, page-grows}
 use Rattle.asking.specs.Seen.{mostBest, seenAs, raisedBy, Raised, searchedIn, OpenedPage}
 use Rattle.asking.specs.declared.Asked.{Asked}
 use Rattle.asking.specs.declared.Asked.the-variants.{Refused, Nothing, Gust}
@@ -159,29 +160,20 @@ unfolding inOrder searchRecord raisedBy
 leaf-searched q [] best opened = refl
 leaf-searched q (e ∷ es) best opened = leaf-searched q es (raised q e best) opened
 
--- what becomes of an index entry
-turned : (a b : Bool) → a || b ≡ b || a
-turned true true = refl
-turned true false = refl
-turned false true = refl
-turned false false = refl
-
-module _ (q : Box) (e : Entry) (best gust : ℕ) (touch : Bool) (p : touch ≡ touches q (e .place)) (g : gust ≡ e .gust) where
-  passes : (b : Bool) → leb (gust + 1) best || not touch ≡ b → passedOver q e best ≡ b
-  passes b h = rw (← p, ← g) (turned (not touch) (leb (gust + 1) best) ∙ h)
-
-  pub step-pass : leb (gust + 1) best || not touch ≡ true → Pass ≡ step q e best
+-- what becomes of an index entry that touches
+module _ (q : Box) (e : Entry) (best gust : ℕ) (p : touches q (e .place) ≡ true) (g : gust ≡ e .gust) where
+  pub step-pass : gust + 1 ≤ best → Pass ≡ step q e best
   unfolding step
-  step-pass h = rw (passes true h)
+  step-pass h = rw (p, ← g, le-leb (gust + 1) best h)
 
-  module _ (strong covered : Bool) (ps : strong ≡ touches q (e .strongest)) (pc : covered ≡ covers q (e .place)) (h : leb (gust + 1) best || not touch ≡ false) where
+  module _ (strong covered : Bool) (ps : strong ≡ touches q (e .strongest)) (pc : covered ≡ covers q (e .place)) (h : best < gust + 1) where
     pub step-raise : strong || covered ≡ true → Raise gust ≡ step q e best
     unfolding step
-    step-raise k = rw (passes false h, ← ps, ← pc, k, g)
+    step-raise k = rw (p, ← g, lt-leb (gust + 1) best h, ← ps, ← pc, k)
 
     pub step-open : (child : ℕ) → strong || covered ≡ false → child ≡ e .child → Open child ≡ step q e best
     unfolding step
-    step-open child k c = rw (passes false h, ← ps, ← pc, k, c)
+    step-open child k c = rw (p, ← g, lt-leb (gust + 1) best h, ← ps, ← pc, k, c)
 
 -- the search of an entry: its three ways. A word is below 65,536, so what is refused is passed over.
 module _ (lower : ℕ → ℕ → ℕ → Search) (q : Box) (e : Entry) (best opened : ℕ) where
@@ -267,6 +259,16 @@ pub index-start : (ps : List Page) (q : Box) (level p best opened : ℕ) → 1 �
     → inOrder (searchEntry (searchPage ps q (level - 1) 1) q) (inUse (page ps p)) (seenAs best opened) ≡ searchedIn ps q (level - 1) p best opened
 index-start ps q level p best opened h n l = rw (seen-found best opened l, index-one (searchPage ps q (level - 1) 1) q level h n)
 
+-- an index page, of which only the gathered entries are followed
+pub follow-start : (t : List ℕ) (q : Box) (level p best opened : ℕ) (places : List ℕ) (n : ℕ) → 1 ≤ level → (level ≡ 1 → ⊥) → best ≤ mostBest → Gathered t p q best places n
+    → inOrder (searchEntry (searchPage (pagesOf t) q (level - 1) 1) q) (entriesAt t p (take n places)) (seenAs best opened) ≡ searchedIn (pagesOf t) q (level - 1) p best opened
+follow-start t q level p best opened places n h m l g =
+    let lower = searchPage (pagesOf t) q (level - 1) 1 in
+    let first = seen-found best opened l in
+    ap (λ (es : List Entry). inOrder (searchEntry lower q) es (seenAs best opened)) (g .same)
+    ∙ gathered-enough lower (λ c b o. page-grows (pagesOf t) q (level - 1) 1 c b o) q best (inUse (page (pagesOf t) p)) (seenAs best opened) (rw first (omega arith))
+    ∙ index-start (pagesOf t) q level p best opened h m l
+
 -- what opening a page tells
 pub opened-record : (t w : List ℕ) (level least p opened best : ℕ) → tableFits t ≡ true → IsSieve w → best ≤ mostBest → mayOpen (pagesOf t) level least p opened ≡ true → OpenedPage t p w best
 opened-record t w level least p opened best e s l h =
@@ -296,8 +298,8 @@ module _ (ps : List Page) (q : Box) (e : Entry) (n child best opened : ℕ) (sma
   pub entry-opened : (s : Search) → mayOpen ps n 1 child opened ≡ true → s ≡ searchedIn ps q (n - 1) child best (opened + 1) → s ≡ searchEntry (searchPage ps q n 1) q e (seenAs best opened)
   entry-opened s m k = k ∙ sym (opened-page ps q n 1 child best opened m) ∙ sym (entry-open (searchPage ps q n 1) q e best opened small child h)
 
-  pub entry-refused : (b o : ℕ) → mayOpen ps n 1 child opened ≡ false → b ≡ 65_537 → seenAs b o ≡ searchEntry (searchPage ps q n 1) q e (seenAs best opened)
-  entry-refused b o m k = seen-refused b o (omega arith) ∙ sym (refused-page ps q n 1 child best opened m) ∙ sym (entry-open (searchPage ps q n 1) q e best opened small child h)
+  pub entry-refused : (b o : ℕ) → mayOpen ps n 1 child opened ≡ false → mostBest < b → seenAs b o ≡ searchEntry (searchPage ps q n 1) q e (seenAs best opened)
+  entry-refused b o m k = seen-refused b o k ∙ sym (refused-page ps q n 1 child best opened m) ∙ sym (entry-open (searchPage ps q n 1) q e best opened small child h)
 
 pub open-low : (q : Box) (e : Entry) (best child : ℕ) → e .gust < mostBest → Open child ≡ step q e best → best ≤ mostBest
 open-low q e best child small h = entry-low (λ p b o. refused) q e best 0 small child h
@@ -316,9 +318,9 @@ root-opened ps s q w r p m k =
     ∙ ap (λ b. searchedIn ps b (s .height - 1) (s .root) 0 1) (ap questionOf p ∙ question-of q)
     ∙ sym (opened-page ps q (s .height) (leastRoot (s .height)) (s .root) 0 0 m)
 
-pub root-refused : (ps : List Page) (s : Small) (q : Box) (b o : ℕ) → mayOpen ps (s .height) (leastRoot (s .height)) (s .root) 0 ≡ false → b ≡ 65_537 → seenAs b o ≡ searchBook ps s q
+pub root-refused : (ps : List Page) (s : Small) (q : Box) (b o : ℕ) → mayOpen ps (s .height) (leastRoot (s .height)) (s .root) 0 ≡ false → mostBest < b → seenAs b o ≡ searchBook ps s q
 unfolding searchBook
-root-refused ps s q b o m k = seen-refused b o (omega arith) ∙ sym (refused-page ps q (s .height) (leastRoot (s .height)) (s .root) 0 0 m)
+root-refused ps s q b o m k = seen-refused b o k ∙ sym (refused-page ps q (s .height) (leastRoot (s .height)) (s .root) 0 0 m)
 
 -- the answer: refusals 1 and 2, and what the search has come to
 pub asked-no-table : (t : List ℕ) (s : Small) (q : Box) (f : Bool) → f ≡ tableFits t → not f ≡ true → Refused 1 ≡ asked t s q
@@ -332,3 +334,22 @@ asked-no-box t s q f l p h r k = rw (sym p ∙ not-false f h, sym r ∙ not-true
 pub asked-found : (t : List ℕ) (s : Small) (q : Box) (f l : Bool) (so : Search) (r : Asked) → f ≡ tableFits t → not f ≡ false → l ≡ legal q → not l ≡ false → so ≡ searchBook (pagesOf t) s q → r ≡ answered so → r ≡ asked t s q
 unfolding asked
 asked-found t s q f l so r p h u k n a = rw (sym p ∙ not-false f h, sym u ∙ not-false l k, ← n) a
+
+-- the answer in document 01's numbers
+says-answered : (x : Search) → says (answered x) ≡ toldBy x
+unfolding answered toldBy
+says-answered refused = refl
+says-answered (found zero opened) = refl
+says-answered (found (suc gust) opened) = rw (add-one gust)
+
+pub says-told : (t : List ℕ) (s : Small) (q : Box) → says (asked t s q) ≡ told t s q
+unfolding asked told
+says-told t s q = by-tests (tableFits t) (legal q)
+  where
+    by-tests : (f l : Bool) → says (cond f (cond l (answered (searchBook (pagesOf t) s q)) (Refused 2)) (Refused 1)) ≡ cond f (cond l (toldBy (searchBook (pagesOf t) s q)) (refusedBy 2)) (refusedBy 1)
+    by-tests true true = says-answered (searchBook (pagesOf t) s q)
+    by-tests true false = refl
+    by-tests false l = refl
+
+pub told-so : (t : List ℕ) (s : Small) (q : Box) (r : Asked) → r ≡ asked t s q → (r ≡ asked t s q) × (says r ≡ told t s q)
+told-so t s q r e = (e, ap says e ∙ says-told t s q)

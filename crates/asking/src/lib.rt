@@ -4,7 +4,7 @@ mod search;
 use ground::Box;
 use pages::Small;
 ghost use mathlib.Core.Path.{_≡_};
-ghost use Rattle.asking.specs.Asking.{asked};
+ghost use Rattle.asking.specs.Asking.{asked, says, told};
 
 pub enum Asked {
     // Document 01's number of the refusal.
@@ -13,9 +13,9 @@ pub enum Asked {
     Gust { gust: u16, pages: u32 },
 }
 
-// The answer to a question. Refusals 1, 2 and 4, in this order.
+// The answer to a question, and what it says in document 01's numbers. Refusals 1, 2 and 4, in this order.
 pub fn ask(t: &[u16], s: Small, q: Box) -> Asked
-    ensures { λ r. ⌜ r ≡ asked (now (t .entry)) s q ⌝ }
+    ensures { λ r. ⌜ (r ≡ asked (now (t .entry)) s q) × (says r ≡ told (now (t .entry)) s q) ⌝ }
 {
     if !pages::table_fits(t) {
         return Asked::Refused(1);

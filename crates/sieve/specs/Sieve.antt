@@ -7,6 +7,16 @@ use lib.Dec.{leb}
 use lib.ListN.{getD}
 use Rattle.ground.specs.declared.boxes.Box.{Box}
 
+-- Words that are tested at once; where the rows of covering start; all words of a sieve.
+abbrev pub rowWords : ℕ
+rowWords = 8
+
+abbrev pub coveredRows : ℕ
+coveredRows = 16
+
+abbrev pub sieveWords : ℕ
+sieveWords = 32
+
 abbrev pub topWord : ℕ
 topWord = 65_535
 
@@ -42,7 +52,7 @@ allAtMost t k w a =
 
 -- Eight words pass two rows: at least those of the one, at most those of the other.
 abbrev pub wordsPass : List ℕ → ℕ → List ℕ → ℕ → Bool
-wordsPass t k w a = allAtLeast t k w a && allAtMost t k w (a + 8)
+wordsPass t k w a = allAtLeast t k w a && allAtMost t k w (a + rowWords)
 
 -- The sieve of a question. The last two places of a row let every word pass.
 unfoldable pub sieveOf : Box → List ℕ

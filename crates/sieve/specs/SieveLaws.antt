@@ -10,7 +10,7 @@ use lib.ListN.{getD}
 use Rattle.ground.specs.Boxes.{touches, covers}
 use Rattle.ground.specs.declared.boxes.Box.{Box}
 use Rattle.pages.specs.Layout.{boxAt, entryAt, entryStart, entryIn}
-use Rattle.sieve.specs.Sieve.{topWord, atLeast, atMost, allAtLeast, allAtMost, wordsPass, sieveOf, questionOf, IsSieve}
+use Rattle.sieve.specs.Sieve.{coveredRows, topWord, atLeast, atMost, allAtLeast, allAtMost, wordsPass, sieveOf, questionOf, IsSieve}
 
 -- the sieve that is made is one, and its question is the one that it was made of
 pub sieve-is : (q : Box) → IsSieve (sieveOf q)
@@ -79,7 +79,7 @@ module _ (t : List ℕ) (k : ℕ) (q : Box) (w : Words t) where
       (rw (greatest (k + 1), greatest (k + 3), greatest (k + 5), greatest (k + 6), greatest (k + 7))
       (odd (leb (q .east .low) (getD t (k + 1) 0)) (leb (q .north .low) (getD t (k + 3) 0)) (leb (q .day .low) (getD t (k + 5) 0)) (leb (getD t k 0) (q .east .high)) (leb (getD t (k + 2) 0) (q .north .high)) (leb (getD t (k + 4) 0) (q .day .high))))
 
-  pub sieve-covers : wordsPass t k (sieveOf q) 16 ≡ covers q (boxAt t k)
+  pub sieve-covers : wordsPass t k (sieveOf q) coveredRows ≡ covers q (boxAt t k)
   unfolding allAtLeast allAtMost sieveOf covers boxAt
   sieve-covers =
       let e : k + 2 + 1 ≡ k + 3 = omega arith in
@@ -94,9 +94,9 @@ module _ (t w : List ℕ) (p i k : ℕ) (r : Bool) (start : k ≡ entryStart p i
   unfolding entryAt
   place-touched e = e ∙ ap (λ l. wordsPass t k l 0) (s .same) ∙ sieve-touches t k (questionOf w) h ∙ ap (λ j. touches (questionOf w) (boxAt t j)) start
 
-  pub place-covers : r ≡ wordsPass t k w 16 → r ≡ covers (questionOf w) (entryIn t p i .place)
+  pub place-covers : r ≡ wordsPass t k w coveredRows → r ≡ covers (questionOf w) (entryIn t p i .place)
   unfolding entryAt
-  place-covers e = e ∙ ap (λ l. wordsPass t k l 16) (s .same) ∙ sieve-covers t k (questionOf w) h ∙ ap (λ j. covers (questionOf w) (boxAt t j)) start
+  place-covers e = e ∙ ap (λ l. wordsPass t k l coveredRows) (s .same) ∙ sieve-covers t k (questionOf w) h ∙ ap (λ j. covers (questionOf w) (boxAt t j)) start
 
   pub strongest-touched : r ≡ wordsPass t (k + 9) w 0 → r ≡ touches (questionOf w) (entryIn t p i .strongest)
   unfolding entryAt

@@ -8,10 +8,17 @@ ghost use lib.ListN.{length};
 ghost use Rattle.ground.specs.Boxes.{touches, covers};
 ghost use Rattle.pages.specs.Layout.{pageEntries, entryIn};
 ghost use Rattle.pages.specs.Facts.{InTable};
-ghost use Rattle.sieve.specs.Sieve.{atLeast, atMost, allAtLeast, allAtMost, wordsPass, sieveOf, questionOf, IsSieve};
+ghost use Rattle.sieve.specs.Sieve.{rowWords, coveredRows, sieveWords, atLeast, atMost, allAtLeast, allAtMost, wordsPass, sieveOf, questionOf, IsSieve};
+
+// Words that are tested at once, and words of a sieve: the two rows of touching, then the two of covering.
+pub const ROW: usize = 8;
+
+pub const COVERED: usize = 2 * ROW;
+
+pub const WORDS: usize = 4 * ROW;
 
 // The sieve of a question: the least and the greatest words of a box that touches it, then of one that it covers.
-pub fn sieve_of(q: Box) -> [u16; 32]
+pub fn sieve_of(q: Box) -> [u16; WORDS]
     ensures { λ r. ⌜ r ≡ sieveOf q ⌝ }
 {
     [
@@ -24,13 +31,13 @@ pub fn sieve_of(q: Box) -> [u16; 32]
         0,
         0,
         q.east.high,
-        65535,
+        u16::MAX,
         q.north.high,
-        65535,
+        u16::MAX,
         q.day.high,
-        65535,
-        65535,
-        65535,
+        u16::MAX,
+        u16::MAX,
+        u16::MAX,
         q.east.low,
         0,
         q.north.low,
@@ -39,34 +46,34 @@ pub fn sieve_of(q: Box) -> [u16; 32]
         0,
         0,
         0,
-        65535,
+        u16::MAX,
         q.east.high,
-        65535,
+        u16::MAX,
         q.north.high,
-        65535,
+        u16::MAX,
         q.day.high,
-        65535,
-        65535,
+        u16::MAX,
+        u16::MAX,
     ]
 }
 
-fn at_least(t: &[u16], k: usize, q: &[u16; 32], a: usize) -> bool
-    requires { ⌜ (k < length (now t)) × (a < 32) ⌝ }
+fn at_least(t: &[u16], k: usize, q: &[u16; WORDS], a: usize) -> bool
+    requires { ⌜ (k < length (now t)) × (a < sieveWords) ⌝ }
     ensures { λ r. ⌜ r ≡ atLeast (now (t .entry)) k (now (q .entry)) a ⌝ }
 {
     q[a] <= t[k]
 }
 
-fn at_most(t: &[u16], k: usize, q: &[u16; 32], a: usize) -> bool
-    requires { ⌜ (k < length (now t)) × (a < 32) ⌝ }
+fn at_most(t: &[u16], k: usize, q: &[u16; WORDS], a: usize) -> bool
+    requires { ⌜ (k < length (now t)) × (a < sieveWords) ⌝ }
     ensures { λ r. ⌜ r ≡ atMost (now (t .entry)) k (now (q .entry)) a ⌝ }
 {
     t[k] <= q[a]
 }
 
 // All the least before all the greatest: so the machine takes them as two rows.
-fn all_at_least(t: &[u16], k: usize, q: &[u16; 32], a: usize) -> bool
-    requires { ⌜ (k + 8 ≤ length (now t)) × (a + 8 ≤ 32) ⌝ }
+fn all_at_least(t: &[u16], k: usize, q: &[u16; WORDS], a: usize) -> bool
+    requires { ⌜ (k + rowWords ≤ length (now t)) × (a + rowWords ≤ sieveWords) ⌝ }
     ensures { λ r. ⌜ r ≡ allAtLeast (now (t .entry)) k (now (q .entry)) a ⌝ }
 {
     at_least(t, k, q, a)
@@ -79,8 +86,8 @@ fn all_at_least(t: &[u16], k: usize, q: &[u16; 32], a: usize) -> bool
         & at_least(t, k + 7, q, a + 7)
 }
 
-fn all_at_most(t: &[u16], k: usize, q: &[u16; 32], a: usize) -> bool
-    requires { ⌜ (k + 8 ≤ length (now t)) × (a + 8 ≤ 32) ⌝ }
+fn all_at_most(t: &[u16], k: usize, q: &[u16; WORDS], a: usize) -> bool
+    requires { ⌜ (k + rowWords ≤ length (now t)) × (a + rowWords ≤ sieveWords) ⌝ }
     ensures { λ r. ⌜ r ≡ allAtMost (now (t .entry)) k (now (q .entry)) a ⌝ }
 {
     at_most(t, k, q, a)
@@ -93,15 +100,15 @@ fn all_at_most(t: &[u16], k: usize, q: &[u16; 32], a: usize) -> bool
         & at_most(t, k + 7, q, a + 7)
 }
 
-fn words_pass(t: &[u16], k: usize, q: &[u16; 32], a: usize) -> bool
-    requires { ⌜ (k + 8 ≤ length (now t)) × (a + 16 ≤ 32) ⌝ }
+fn words_pass(t: &[u16], k: usize, q: &[u16; WORDS], a: usize) -> bool
+    requires { ⌜ (k + rowWords ≤ length (now t)) × (a + coveredRows ≤ sieveWords) ⌝ }
     ensures { λ r. ⌜ r ≡ wordsPass (now (t .entry)) k (now (q .entry)) a ⌝ }
 {
-    all_at_least(t, k, q, a) & all_at_most(t, k, q, a + 8)
+    all_at_least(t, k, q, a) & all_at_most(t, k, q, a + ROW)
 }
 
 // Whether the box of entry i of page p touches the question.
-pub fn place_touches(t: &[u16], p: usize, i: usize, q: &[u16; 32]) -> bool
+pub fn place_touches(t: &[u16], p: usize, i: usize, q: &[u16; WORDS]) -> bool
     requires { ⌜ InTable (now t) p × (i < pageEntries) × IsSieve (now q) ⌝ }
     ensures { λ r. ⌜ r ≡ touches (questionOf (now (q .entry))) (entryIn (now (t .entry)) p i .place) ⌝ }
 {
@@ -109,15 +116,15 @@ pub fn place_touches(t: &[u16], p: usize, i: usize, q: &[u16; 32]) -> bool
 }
 
 // Whether the question covers it.
-pub fn place_covered(t: &[u16], p: usize, i: usize, q: &[u16; 32]) -> bool
+pub fn place_covered(t: &[u16], p: usize, i: usize, q: &[u16; WORDS]) -> bool
     requires { ⌜ InTable (now t) p × (i < pageEntries) × IsSieve (now q) ⌝ }
     ensures { λ r. ⌜ r ≡ covers (questionOf (now (q .entry))) (entryIn (now (t .entry)) p i .place) ⌝ }
 {
-    words_pass(t, pages::entry_start(p, i), q, 16)
+    words_pass(t, pages::entry_start(p, i), q, COVERED)
 }
 
 // Whether its strongest box touches the question.
-pub fn strongest_touches(t: &[u16], p: usize, i: usize, q: &[u16; 32]) -> bool
+pub fn strongest_touches(t: &[u16], p: usize, i: usize, q: &[u16; WORDS]) -> bool
     requires { ⌜ InTable (now t) p × (i < pageEntries) × IsSieve (now q) ⌝ }
     ensures { λ r. ⌜ r ≡ touches (questionOf (now (q .entry))) (entryIn (now (t .entry)) p i .strongest) ⌝ }
 {

@@ -1,5 +1,5 @@
 -- `asking::ask` meets its contract.
-use Rattle.asking.specs.Turns.{asked-no-table, asked-no-box, asked-found}
+use Rattle.asking.specs.Turns.{asked-no-table, asked-no-box, asked-found, told-so}
 use Rattle.asking.specs.Bounded.{book-most}
 use borrow.Author.Tests.{not-false}
 use mathlib.Core.Path.{sym, _∙_}
@@ -11,13 +11,13 @@ table-fits-requires : tie.Need-table-fits-requires
 table-fits-requires c κs = search needs
 
 returns : tie.Need-returns
-returns c = asked-no-table _ _ _ _ (c .before .table-fits .ensures) (c .if1 .taken)
+returns c = told-so _ _ _ _ (asked-no-table _ _ _ _ (c .before .table-fits .ensures) (c .if1 .taken))
 
 legal-requires : tie.Need-legal-requires
 legal-requires c κs = search needs
 
 returns-2 : tie.Need-returns-2
-returns-2 c = asked-no-box _ _ _ _ _ (c .before .before .before .table-fits .ensures) (c .before .before .if1 .left) (c .before .legal .ensures) (c .if2 .taken)
+returns-2 c = told-so _ _ _ _ (asked-no-box _ _ _ _ _ (c .before .before .before .table-fits .ensures) (c .before .before .if1 .left) (c .before .legal .ensures) (c .if2 .taken))
 
 search-book-requires : tie.Need-search-book-requires
 search-book-requires c κs = sym (c .before .before .before .table-fits .ensures) ∙ not-false _ (c .before .before .if1 .left)
@@ -26,7 +26,11 @@ answer-requires : tie.Need-answer-requires
 answer-requires c κs = book-most _ _ _ _ (sym (c .before .before .before .before .table-fits .ensures) ∙ not-false _ (c .before .before .before .if1 .left)) (c .search-book .ensures)
 
 returns-3 : tie.Need-returns-3
-returns-3 c = asked-found _ _ _ _ _ _ _ (c .before .before .before .before .before .table-fits .ensures) (c .before .before .before .before .if1 .left) (c .before .before .before .legal .ensures) (c .before .before .if2 .left) (c .before .search-book .ensures) (c .answer .ensures)
+returns-3 c =
+    let by-box = c .before .before .before in
+    let by-table = by-box .before .before in
+    let found = asked-found _ _ _ _ _ _ _ (by-table .table-fits .ensures) (by-box .before .if1 .left) (by-box .legal .ensures) in
+    told-so _ _ _ _ (found (c .before .before .if2 .left) (c .before .search-book .ensures) (c .answer .ensures))
 
 pub ask-spec : {M : Type 1} → statement M
 ask-spec =

@@ -16,7 +16,7 @@ tell-asked-requires : tie.Need-tell-asked-requires
 tell-asked-requires c κs = tt
 
 returns : tie.Need-returns
-returns c = ask-told _ (c .before .before .before .before .before .before .args .small .now) (c .before .before .before .before .before .before .args .place .now) _ _ _ _ _ (c .before .before .before .before .small-of .ensures) (c .before .before .before .box-of .ensures) (c .before .before .ask .ensures) (c .tell-asked .ensures)
+returns c = ask-told _ (c .before .before .before .before .before .before .args .small .now) (c .before .before .before .before .before .before .args .place .now) _ _ _ _ _ (c .before .before .before .before .small-of .ensures) (c .before .before .before .box-of .ensures) (c .before .before .ask .ensures .0) (c .tell-asked .ensures)
 
 pub gust-ask-spec : {M : Type 1} → statement M
 gust-ask-spec =

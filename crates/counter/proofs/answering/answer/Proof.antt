@@ -41,7 +41,7 @@ same-length-2 : tie.Need-same-length-2
 same-length-2 c = search needs
 
 returns-2 : tie.Need-returns-2
-returns-2 c = rw (c .before .before .before .before .before .line2 .given .1) (told-ask _ _ _ _ (c .before .ask .result) _ (c .before .before .narrow .ensures) (c .before .ask .ensures) (c .ask-says .ensures))
+returns-2 c = rw (c .before .before .before .before .before .line2 .given .1) (told-ask _ _ _ _ (c .before .ask .result) _ (c .before .before .narrow .ensures) (c .before .ask .ensures .0) (c .ask-says .ensures))
 
 same-length-3 : tie.Need-same-length-3
 same-length-3 c = search needs
