@@ -1,4 +1,4 @@
--- The examples of document 01 that ask, each by computation on a table of 180 pages.
+-- The examples of RULES.md that ask, each by computation on a table of 180 pages.
 use Prim.Native.Nat.{ℕ, _-_}
 use mathlib.Core.List.{List, [], _∷_, _++_, flatMap}
 use mathlib.Core.Bool.{true}
@@ -40,12 +40,12 @@ small root height accepted = record { root = root; height = height; accepted = a
 abbrev oneRecord : List ℕ
 oneRecord = bookWith (pageWith 1 (held (over (to 10 19) (to 10 19) (to 7_305 7_314)) 250 ∷ []) ∷ [])
 
--- P: ask 19 25 19 25 1900-01-10 1900-02-01 gives gust 250, pages 1
+-- Rule 9.1, P: ask 19 25 19 25 1900-01-10 1900-02-01 gives gust 250, pages 1
 pub corner : asked oneRecord (small 0 1 1) (over (to 19 25) (to 19 25) (to 7_314 7_336)) ≡ Gust 250 1
 unfolding asked searchBook searchPage searchOpened searchOne searchRecord raised inOrder mayOpen answered legal touches tableOf pagesOf cutPages pageOf entriesOf entryAt boxAt wordsOfPage wordsOfEntries wordsOfEntry wordsOfBox
 corner = refl
 
--- P: ask 20 25 10 19 1900-01-01 1900-01-10 gives nothing, pages 1
+-- Rule 9.1, P: ask 20 25 10 19 1900-01-01 1900-01-10 gives nothing, pages 1
 pub beside : asked oneRecord (small 0 1 1) (over (to 20 25) (to 10 19) (to 7_305 7_314)) ≡ Nothing 1
 unfolding asked searchBook searchPage searchOpened searchOne searchRecord raised inOrder mayOpen answered legal touches tableOf pagesOf cutPages pageOf entriesOf entryAt boxAt wordsOfPage wordsOfEntries wordsOfEntry wordsOfBox
 beside = refl
@@ -68,12 +68,12 @@ pub nine-stand : wellFormed nineRecords (small 2 2 9) ≡ true
 unfolding wellFormed pagesStand rootStands everyBelow childrenLower isLower children every reachedOnce times walk pageStands countStands entriesStand leafEntryStands isExact sameWords countsStand heldRecords leafEntries flatMap legal size join tableOf pagesOf cutPages pageOf entriesOf entryAt boxAt wordsOfPage wordsOfEntries wordsOfEntry wordsOfBox summaryOf summary covering firstGreatest leastOf
 nine-stand = refl
 
--- P: asking there, east 75 to 79, gives nothing, 2 pages
+-- Rule 9.7, P: asking there, east 75 to 79, gives nothing, 2 pages
 pub between : asked nineRecords (small 2 2 9) (over (to 75 79) (to 0 0) (to 0 0)) ≡ Nothing 2
 unfolding asked searchBook searchPage searchOpened searchOne searchRecord searchEntry raised step follow inOrder mayOpen answered legal touches covers join tableOf pagesOf cutPages pageOf entriesOf entryAt boxAt wordsOfPage wordsOfEntries wordsOfEntry wordsOfBox summaryOf summary covering firstGreatest leastOf
 between = refl
 
--- P: east 45 to 65 gives 100, 2 pages
+-- Rule 9.7, P: east 45 to 65 gives 100, 2 pages
 pub across : asked nineRecords (small 2 2 9) (over (to 45 65) (to 0 0) (to 0 0)) ≡ Gust 100 2
 unfolding asked searchBook searchPage searchOpened searchOne searchRecord searchEntry raised step follow inOrder mayOpen answered legal touches covers join tableOf pagesOf cutPages pageOf entriesOf entryAt boxAt wordsOfPage wordsOfEntries wordsOfEntry wordsOfBox summaryOf summary covering firstGreatest leastOf
 across = refl

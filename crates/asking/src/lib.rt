@@ -7,7 +7,7 @@ ghost use mathlib.Core.Path.{_≡_};
 ghost use Rattle.asking.specs.Asking.{asked};
 
 pub enum Asked {
-    // Document 01's number of the refusal.
+    // The refusal's number, by rule 7.22.
     Refused(u8),
     Nothing { pages: u32 },
     Gust { gust: u16, pages: u32 },
