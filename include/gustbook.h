@@ -4,7 +4,17 @@
  * Each call returns 0, or the number of the refusal; a refusal changes nothing (but see gust_load).
  * Numbers of a box and a gust are 32 bits wide: one that is out of range is refused by 2 or 3, never cut short.
  * What a call changes must overlap nothing else that is lent to the same call. Calls keep nothing between them:
- * two threads may call at once on different books, or ask, count and save on the same one. */
+ * two threads may call at once on different books, or ask, count and save on the same one.
+ * No pointer may be null, but for a table or an image of length 0.
+ *
+ * A book whose words something else has changed is spoilt. Recording, counting, saving and loading look at all of it and
+ * refuse it by 4. Asking looks only at the pages that it opens: it refuses by 4 what it meets there and cannot follow, and
+ * otherwise answers by the words as they stand, so a spoilt book may answer wrongly. gust_count tells whether a book is
+ * well-formed.
+ *
+ * Stack: asking and recording go down the book's levels, so what they need grows with its height. A book of records alone
+ * has a handful of levels and needs a few KiB. The tallest that 4,096 pages can hold, and the tallest spoilt one, need less
+ * than 1 MiB: this is measured by ./check, not proved. */
 #ifndef GUSTBOOK_H
 #define GUSTBOOK_H
 
@@ -24,7 +34,7 @@ enum gust_refusal {
     GUST_TABLE = 1,   /* the table is not 1 to 4,096 whole pages; loading: not as many as the image's */
     GUST_BOX = 2,     /* a low end above its high end, or a high end above its limit */
     GUST_GUST = 3,    /* a gust above 1,200 */
-    GUST_DAMAGED = 4, /* the book is not well-formed */
+    GUST_DAMAGED = 4, /* the book is not well-formed; asking: a page that has to be opened cannot be */
     GUST_SPENT = 5,   /* 1,000,000 records were accepted */
     GUST_FULL = 6,    /* too few free pages */
     GUST_SIZE = 7,    /* an image, or a buffer to save into, of the wrong length */
