@@ -29,10 +29,6 @@ enum Step {
     /// The record stands; a page that was split names its second half.
     Kept(Option<u16>),
     Covered,
-    /// The page has no entry left, so its parent must let it go.
-    Emptied,
-    /// A page was let go; the walk begins again.
-    Again,
 }
 
 /// A held box that may cut or cover, and what to note if it does.
@@ -73,30 +69,29 @@ impl<'a, N: Note> Walk<'a, N> {
     }
 
     fn walk(&mut self) -> Verdict {
-        loop {
-            match self.visit(self.book.root as u16) {
-                Step::Again | Step::Emptied => {}
-                Step::Covered => return Verdict::Covered,
-                Step::Kept(second) => {
-                    if let Some(second) = second {
-                        self.raise_root(second);
-                    }
-                    return if self.cut {
-                        Verdict::Cut
-                    } else {
-                        Verdict::Kept
-                    };
+        let root = self.book.root as u16;
+        self.strike(root);
+        if count(self.page(root)) == 0 {
+            self.stand_empty(root);
+        }
+        match self.visit(root) {
+            Step::Covered => Verdict::Covered,
+            Step::Kept(second) => {
+                if let Some(second) = second {
+                    self.raise_root(second);
+                }
+                if self.cut {
+                    Verdict::Cut
+                } else {
+                    Verdict::Kept
                 }
             }
         }
     }
 
-    /// Strikes, cuts and places the record at a page and below it. One frame a level.
+    /// Cuts and places the record at a page whose strikes are done, and strikes, cuts and places it
+    /// below. One frame a level.
     fn visit(&mut self, number: u16) -> Step {
-        self.strike(number);
-        if count(self.page(number)) == 0 && !self.stand_empty(number) {
-            return Step::Emptied;
-        }
         if self.is_covered(number) {
             return Step::Covered;
         }
@@ -105,10 +100,8 @@ impl<'a, N: Note> Walk<'a, N> {
         }
         let place = self.choose(number);
         let child = entries(self.page(number))[place][CHILD];
+        self.strike(child);
         let step = self.visit(child);
-        if matches!(step, Step::Emptied) {
-            return self.let_go(number, place, child);
-        }
         self.make_exact(number, place, child);
         match step {
             Step::Kept(Some(second)) => Step::Kept(self.append_page(number, second)),
@@ -168,20 +161,16 @@ impl<'a, N: Note> Walk<'a, N> {
         self.free_from = self.free_from.min(usize::from(number));
     }
 
-    /// Lets the root stand as an empty leaf; false for any other page.
+    /// Lets the root, which has lost all entries, stand as an empty leaf.
     #[inline(never)]
-    fn stand_empty(&mut self, number: u16) -> bool {
-        if u32::from(number) != self.book.root {
-            return false;
-        }
-        if level(self.page(number)) != LEAF {
-            page::write(self.page_mut(number), LEAF, [].into_iter());
+    fn stand_empty(&mut self, root: u16) {
+        if level(self.page(root)) != LEAF {
+            page::write(self.page_mut(root), LEAF, [].into_iter());
             self.book.height = u32::from(LEAF);
             self.note.note(Event::RootEmptied);
         } else if self.struck != 0 {
             self.note.note(Event::LeafRootEmptied);
         }
-        true
     }
 
     /// Holds the record against the page's boxes in order: they cut it, or cover it.
@@ -278,20 +267,6 @@ impl<'a, N: Note> Walk<'a, N> {
     fn make_exact(&mut self, number: u16, place: usize, child: u16) {
         let entry = summary(self.page(child), child);
         slots_mut(self.page_mut(number))[place] = entry;
-    }
-
-    /// Frees an emptied child and takes its entry out. No sound book comes here: a record that
-    /// strikes all of a page would have struck its entry a level higher.
-    #[cold]
-    #[inline(never)]
-    fn let_go(&mut self, number: u16, place: usize, child: u16) -> Step {
-        self.note.note(Event::PageEmptied);
-        self.free(child);
-        page::take_out(self.page_mut(number), 1 << place);
-        if count(self.page(number)) == 0 && !self.stand_empty(number) {
-            return Step::Emptied;
-        }
-        Step::Again
     }
 
     /// Sets a new root above a split one; it names the old page, then the second half.

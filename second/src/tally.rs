@@ -19,12 +19,10 @@ pub enum Event {
     RootEmptied,
     /// A leaf root lost all entries and stood empty.
     LeafRootEmptied,
-    /// A page below the root lost all entries, and the record started again.
-    PageEmptied,
 }
 
 impl Event {
-    pub const ALL: [Event; 15] = [
+    pub const ALL: [Event; 14] = [
         Event::StruckRecord,
         Event::StruckSubtree,
         Event::CutByLeaf,
@@ -39,7 +37,6 @@ impl Event {
         Event::RootCollapsed,
         Event::RootEmptied,
         Event::LeafRootEmptied,
-        Event::PageEmptied,
     ];
 }
 

@@ -1,9 +1,9 @@
-//! Books of very many levels, on a small stack, and pages that are emptied below the root.
+//! Books of very many levels, on a small stack.
 
 mod common;
 
-use common::{lone_entry, put_chain, put_page, record_entry, tallest_book, Book};
-use second::{record_sound_noting, Answer, Event, Recorded, Refusal, Tally, Verdict, PAGE_WORDS};
+use common::{lone_entry, put_chain, record_entry, tallest_book, Book};
+use second::{Answer, Recorded, Refusal, Verdict, PAGE_WORDS};
 
 fn on_a_small_stack(work: impl FnOnce() + Send + 'static) {
     let thread = std::thread::Builder::new().stack_size(1 << 20);
@@ -147,69 +147,4 @@ fn a_maze_opens_no_more_pages_than_there_are() {
         }
         assert_eq!(book.ask([5; 6]), Err(Refusal::Damaged));
     });
-}
-
-/// Entries that claim more than their pages hold lead the walk to pages it strikes bare.
-fn boast(book: &mut Book, page: usize, place: usize) {
-    let entry = &mut book.table[page * PAGE_WORDS + 2 + 21 * place..][..21];
-    entry[6] = 1_000;
-    entry[7] = 0;
-    entry[9..15].fill(4_000);
-}
-
-fn record_boasted(book: &mut Book, ends: [u32; 6], gust: u32) -> (Recorded, u64) {
-    let mut tally = Tally::default();
-    let (table, small) = (&mut book.table, &mut book.small);
-    let done = record_sound_noting(table, small, ends.into(), gust, &mut tally).unwrap();
-    (done, tally.times(Event::PageEmptied))
-}
-
-#[test]
-fn an_emptied_leaf_is_let_go() {
-    let mut book = Book::new(12);
-    for east in (0..=80).step_by(10) {
-        book.record([east, east, 0, 0, 0, 0], 100).unwrap();
-    }
-    boast(&mut book, 2, 1);
-    let (done, emptied) = record_boasted(&mut book, [60, 80, 0, 0, 0, 0], 100);
-    assert_eq!((Ok(done), emptied), (recorded(Verdict::Kept, 3), 1));
-    assert_eq!((book.small.root, book.small.height), (0, 1));
-    assert_eq!(book.held(), Some(7));
-    assert_eq!(book.page(0)[128..135], [60, 80, 0, 0, 0, 0, 100]);
-}
-
-#[test]
-fn emptied_pages_are_let_go_one_after_the_other() {
-    let mut book = Book::new(12);
-    put_chain(&mut book.table, 1, 3, LEFT.0, LEFT.1);
-    put_chain(&mut book.table, 4, 3, RIGHT.0, RIGHT.1);
-    let entries = [
-        lone_entry(LEFT.0, LEFT.1, 1),
-        lone_entry(RIGHT.0, RIGHT.1, 4),
-    ];
-    put_page(&mut book.table, 0, 4, &entries);
-    book.small.height = 4;
-    book.small.accepted = 2;
-    assert_eq!(book.held(), Some(2));
-    for (page, place) in [(0, 0), (1, 0), (2, 0)] {
-        boast(&mut book, page, place);
-    }
-    let (done, emptied) = record_boasted(&mut book, [0, 9, 0, 9, 0, 9], 100);
-    assert_eq!((Ok(done), emptied), (recorded(Verdict::Kept, 1), 3));
-    assert_eq!((book.small.root, book.small.height), (6, 1));
-    assert_eq!(book.held(), Some(2));
-}
-
-#[test]
-fn a_root_may_lose_its_last_page_so() {
-    let mut book = Book::new(12);
-    put_chain(&mut book.table, 0, 3, LEFT.0, LEFT.1);
-    book.small.height = 3;
-    book.small.accepted = 1;
-    boast(&mut book, 0, 0);
-    boast(&mut book, 1, 0);
-    let (done, emptied) = record_boasted(&mut book, [0, 9, 0, 9, 0, 9], 100);
-    assert_eq!((Ok(done), emptied), (recorded(Verdict::Kept, 1), 2));
-    assert_eq!((book.small.root, book.small.height), (0, 1));
-    assert_eq!(book.held(), Some(1));
 }

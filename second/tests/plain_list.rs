@@ -77,7 +77,7 @@ fn answers_are_those_of_the_plain_list() {
     }
     for (times, event) in total.into_iter().zip(Event::ALL) {
         println!("{event:?} {times}");
-        assert_eq!(times == 0, event == Event::PageEmptied, "{event:?}");
+        assert!(times != 0, "{event:?}");
     }
 }
 

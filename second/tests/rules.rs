@@ -82,7 +82,7 @@ fn small_books_follow_the_rules() {
     assert!(covered_with_strikes > 0);
     for (times, event) in total.into_iter().zip(Event::ALL) {
         println!("{event:?} {times}");
-        assert_eq!(times == 0, event == Event::PageEmptied, "{event:?}");
+        assert!(times != 0, "{event:?}");
     }
 }
 

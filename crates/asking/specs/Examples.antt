@@ -1,19 +1,15 @@
 -- The examples of RULES.md that ask, each by computation on a table of 180 pages.
 use Prim.Native.Nat.{ℕ, _-_}
-use mathlib.Core.List.{List, [], _∷_, _++_, flatMap}
-use mathlib.Core.Bool.{true}
+use mathlib.Core.List.{List, [], _∷_, _++_}
 use mathlib.Core.Path.{_≡_, refl}
 use lib.ListN.{length, take, replicate}
-use Rattle.ground.specs.Boxes.{touches, covers, legal, size, join}
+use Rattle.ground.specs.Boxes.{touches, covers, legal}
 use Rattle.ground.specs.declared.boxes.Range.{Range}
 use Rattle.ground.specs.declared.boxes.Box.{Box}
 use Rattle.pages.specs.Layout.{pageEntries, zeroBox, zeroEntry, freePage, tableOf, pagesOf, cutPages, pageOf, entriesOf, entryAt, boxAt, wordsOfPage, wordsOfEntries, wordsOfEntry, wordsOfBox}
-use Rattle.pages.specs.Summary.{summaryOf, summary, covering, firstGreatest, leastOf}
 use Rattle.pages.specs.declared.Small.{Small}
 use Rattle.pages.specs.declared.Entry.{Entry}
 use Rattle.pages.specs.declared.Page.{Page}
-use Rattle.pages.specs.Words.{every, sameWords}
-use Rattle.wellformed.specs.WellFormed.{everyBelow, times, children, walk, leafEntries, heldRecords, rootStands, isLower, childrenLower, reachedOnce, countStands, leafEntryStands, isExact, entriesStand, pageStands, countsStand, pagesStand, wellFormed}
 use Rattle.asking.specs.Asking.{raised, step, follow, searchEntry, searchRecord, searchOne, inOrder, mayOpen, searchOpened, searchPage, searchBook, answered, asked}
 use Rattle.asking.specs.declared.Asked.the-variants.{Refused, Nothing, Gust}
 
@@ -49,34 +45,6 @@ corner = refl
 pub beside : asked oneRecord (small 0 1 1) (over (to 20 25) (to 10 19) (to 7_305 7_314)) ≡ Nothing 1
 unfolding asked searchBook searchPage searchOpened searchOne searchRecord raised inOrder mayOpen answered legal touches tableOf pagesOf cutPages pageOf entriesOf entryAt boxAt wordsOfPage wordsOfEntries wordsOfEntry wordsOfBox
 beside = refl
-
--- nine records of gust 100 in a row: page 0 holds 0 to 50, page 1 holds 80, 60, 70, and the root is page 2
-abbrev cell : ℕ → Entry
-cell e = held (over (to e e) (to 0 0) (to 0 0)) 100
-
-abbrev west : Page
-west = pageWith 1 (cell 0 ∷ cell 10 ∷ cell 20 ∷ cell 30 ∷ cell 40 ∷ cell 50 ∷ [])
-
-abbrev eastward : Page
-eastward = pageWith 1 (cell 80 ∷ cell 60 ∷ cell 70 ∷ [])
-
-abbrev nineRecords : List ℕ
-nineRecords = bookWith (west ∷ eastward ∷ pageWith 2 (summaryOf 0 west ∷ summaryOf 1 eastward ∷ []) ∷ [])
-
--- it is a well-formed book, so the laws of Answers speak of it
-pub nine-stand : wellFormed nineRecords (small 2 2 9) ≡ true
-unfolding wellFormed pagesStand rootStands everyBelow childrenLower isLower children every reachedOnce times walk pageStands countStands entriesStand leafEntryStands isExact sameWords countsStand heldRecords leafEntries flatMap legal size join tableOf pagesOf cutPages pageOf entriesOf entryAt boxAt wordsOfPage wordsOfEntries wordsOfEntry wordsOfBox summaryOf summary covering firstGreatest leastOf
-nine-stand = refl
-
--- Rule 9.7, P: asking there, east 75 to 79, gives nothing, 2 pages
-pub between : asked nineRecords (small 2 2 9) (over (to 75 79) (to 0 0) (to 0 0)) ≡ Nothing 2
-unfolding asked searchBook searchPage searchOpened searchOne searchRecord searchEntry raised step follow inOrder mayOpen answered legal touches covers join tableOf pagesOf cutPages pageOf entriesOf entryAt boxAt wordsOfPage wordsOfEntries wordsOfEntry wordsOfBox summaryOf summary covering firstGreatest leastOf
-between = refl
-
--- Rule 9.7, P: east 45 to 65 gives 100, 2 pages
-pub across : asked nineRecords (small 2 2 9) (over (to 45 65) (to 0 0) (to 0 0)) ≡ Gust 100 2
-unfolding asked searchBook searchPage searchOpened searchOne searchRecord searchEntry raised step follow inOrder mayOpen answered legal touches covers join tableOf pagesOf cutPages pageOf entriesOf entryAt boxAt wordsOfPage wordsOfEntries wordsOfEntry wordsOfBox summaryOf summary covering firstGreatest leastOf
-across = refl
 
 -- a table that is no book, a box that is none, and a page that points at itself are refused
 pub no-table : asked (0 ∷ []) (small 0 1 0) (over (to 0 0) (to 0 0) (to 0 0)) ≡ Refused 1

@@ -1,5 +1,5 @@
 -- Document 01, "The counter program": every line is answered by the book, and the answers are printed in order.
-use Prim.Native.Nat.{ℕ, _+_}
+use Prim.Native.Nat.{ℕ, zero, suc, _+_}
 use mathlib.Core.Bool.{Bool, true, false}
 use mathlib.Core.List.{List, [], _∷_, _++_}
 use lib.Dec.{eqb}
@@ -53,6 +53,11 @@ answerTo (typed.Add b v) k = recordSays (recordInto (k .table) (k .small) (asGiv
 answerTo (typed.Ask q) k = askSays (asked (k .table) (k .small) (asGiven q))
 answerTo typed.Count k = countSays (counted (k .table) (k .small))
 answerTo typed.Refused k = told.Refused lineRefusal
+
+-- What is printed to a question whose box-max over a list of records is known: 0 is nothing, v + 1 a gust v.
+unfoldable pub boxMaxSays : ℕ → ℕ → Answer
+boxMaxSays zero pages = told.Nothing pages
+boxMaxSays (suc gust) pages = told.Gust gust pages
 
 -- The book after a line: what its call leaves.
 unfoldable pub afterAll : List Call → Book → Book
@@ -128,7 +133,7 @@ finishedBy (b ∷ bs) c = ended c
 abbrev pub finished : Counter → Counter
 finished c = finishedBy (c .line) c
 
--- Input comes in chunks, cut anywhere. After each, what it printed is written; after the last, a line that has begun is ended.
+-- Input comes in chunks, cut anywhere. After each, what it printed is written.
 abbrev pub written : Counter → Counter
 written c = record { book = c .book; line = c .line; out = [] }
 
@@ -136,6 +141,15 @@ unfoldable pub whole : List (List ℕ) → List ℕ
 whole [] = []
 whole (chunk ∷ chunks) = chunk ++ whole chunks
 
-unfoldable pub allWritten : List (List ℕ) → Counter → List ℕ
-allWritten [] c = finished c .out
-allWritten (chunk ∷ chunks) c = let d = fed chunk c in d .out ++ allWritten chunks (written d)
+-- What the chunks leave, and the answers that were written, in order.
+unfoldable pub leftBy : List (List ℕ) → Counter → Counter
+leftBy [] c = c
+leftBy (chunk ∷ chunks) c = leftBy chunks (written (fed chunk c))
+
+unfoldable pub answersTo : List (List ℕ) → Counter → List ℕ
+answersTo [] c = []
+answersTo (chunk ∷ chunks) c = let d = fed chunk c in d .out ++ answersTo chunks (written d)
+
+-- After the last chunk a line that has begun is ended, and its answer written.
+abbrev pub allWritten : List (List ℕ) → Counter → List ℕ
+allWritten chunks c = answersTo chunks c ++ finished (leftBy chunks c) .out

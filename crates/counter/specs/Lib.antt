@@ -4,3 +4,4 @@ pub mod CounterLaws
 pub mod Steps
 pub mod FeedSteps
 pub mod Feeding
+pub mod Settled

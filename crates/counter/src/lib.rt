@@ -5,6 +5,7 @@ mod feeding;
 pub use feeding::feed;
 pub use feeding::finish;
 pub use feeding::open;
+use lines::Line;
 use pages::Small;
 ghost use mathlib.Core.Path.{_≡_};
 
@@ -18,7 +19,7 @@ pub struct State {
 
 impl State {
     // Bytes kept of a line: one more than the longest has, so that a longer one is known.
-    pub const LINE: usize = 81;
+    pub const LINE: usize = Line::LONGEST + 1;
 
     // What was printed is written: the next answers go to the buffer's start.
     pub fn written(self) -> State

@@ -21,7 +21,7 @@ use Rattle.split.specs.Split.{pageFrom}
 use Rattle.wellformed.specs.WellFormed.{everyBelow, times, children, walk, leafEntries, heldRecords, rootStands, isLower, childrenLower, reachedOnce, countStands, leafEntryStands, isExact, entriesStand, pageStands, countsStand, pagesStand, wellFormed}
 use Rattle.rules.specs.Strike.{select, strikeAll, strikeOne, strike}
 use Rattle.rules.specs.Scan.{candidate, scanEntry, scan}
-use Rattle.rules.specs.Recording.{growth, goesBefore, leastGrown, choose, splitPage, settle, exactAt, comeBack, append, goDown, goOn, atPage, walkDown, fromRoot, collapse, recorded}
+use Rattle.rules.specs.Recording.{growth, goesBefore, leastGrown, choose, splitPage, settle, exactAt, comeBack, append, goDown, goOn, walkDown, fromRoot, collapse, recorded}
 use Rattle.rules.specs.Record.{refusal, recordInto}
 use Rattle.counter.specs.Counter.{callsOf, outcomeSays, recordSays, askSays, countSays, answerTo, afterAll, ended, longer, byByte, fed, finishedBy, finished}
 
@@ -40,5 +40,5 @@ printedOut =
     "kept struck 0\ngust 250 pages 1\nnothing pages 1\nkept struck 1\ncut struck 0\ncovered struck 0\nrefused 2\naccepted 4 held 2 struck 1 covered 1\n"
 
 pub transcript : finished (fed typedIn (record { book = opened; line = []; out = [] })) .out ≡ printedOut
-unfolding fed byByte longer ended finishedBy answerTo afterAll callsOf recordSays outcomeSays askSays countSays emptyTable withByte words areDigits numberFrom isA value areA values same command commandOf parsed isDate lengthOfMonth dayNumber daysBeforeYear daysBeforeMonth lengthOfYear total decimalOf printed recordInto refusal recorded fromRoot collapse walkDown atPage goOn goDown append comeBack exactAt settle splitPage choose leastGrown goesBefore growth scan scanEntry candidate strike strikeOne strikeAll select cut cutsOn coversOneEnd left leftOn xor covers touches join size summaryOf summary covering firstGreatest leastOf lowestFrom freeCount pageFrom wellFormed pagesStand rootStands everyBelow childrenLower isLower children every reachedOnce times walk pageStands countStands entriesStand leafEntryStands isExact sameWords countsStand heldRecords leafEntries flatMap legal tableOf pagesOf cutPages pageOf entriesOf entryAt boxAt wordsOfPage wordsOfEntries wordsOfEntry wordsOfBox asked searchBook searchPage searchOpened searchOne searchRecord raised inOrder mayOpen askedBy counted
+unfolding fed byByte longer ended finishedBy answerTo afterAll callsOf recordSays outcomeSays askSays countSays emptyTable withByte words areDigits numberFrom isA value areA values same command commandOf parsed isDate lengthOfMonth dayNumber daysBeforeYear daysBeforeMonth lengthOfYear total decimalOf printed recordInto refusal recorded fromRoot collapse walkDown goOn goDown append comeBack exactAt settle splitPage choose leastGrown goesBefore growth scan scanEntry candidate strike strikeOne strikeAll select cut cutsOn coversOneEnd left leftOn xor covers touches join size summaryOf summary covering firstGreatest leastOf lowestFrom freeCount pageFrom wellFormed pagesStand rootStands everyBelow childrenLower isLower children every reachedOnce times walk pageStands countStands entriesStand leafEntryStands isExact sameWords countsStand heldRecords leafEntries flatMap legal tableOf pagesOf cutPages pageOf entriesOf entryAt boxAt wordsOfPage wordsOfEntries wordsOfEntry wordsOfBox asked searchBook searchPage searchOpened searchOne searchRecord raised inOrder mayOpen askedBy counted
 transcript = refl

@@ -1,3 +1,3 @@
--- Document 01's transcript by computation, and what the program's turns keep.
+-- Document 01's transcript by computation, and what the whole program promises.
 pub mod Examples
-pub mod Turns
+pub mod Program

@@ -1,86 +1,46 @@
-// The counter program: reads standard input, has it served, and writes the answers. All that matters is in `counter`.
+// The counter program: a book of 180 pages, served from standard input to standard output. All that matters is in `counter` and `serving`.
 use counter::State;
-use libc::STDIN_FILENO;
-use libc::STDOUT_FILENO;
-ghost use mathlib.Core.Path.{_≡_};
-ghost use lib.ListN.{length};
-ghost use Rattle.counter.specs.FeedSteps.{Ready};
-ghost use Rattle.gust.specs.Turns.{MayServe};
+use libc::STDERR_FILENO;
+use serving::Ending;
+use serving::Turn;
+ghost use Rattle.gust.specs.Program.{WholeRun};
 
-// What a turn leaves, and whether there is another.
-struct Turn {
-    state: State,
-    goes_on: bool,
-}
-
-// Reads once, serves what came, and writes the answers before anything else is read.
-fn serve_some(t: &mut [u16], line: &mut [u8], s: State, input: &mut [u8], out: &mut [u8]) -> Turn
-    requires { ⌜ Ready (length (now input)) (now t) (now line) (now out) s ⌝ }
-    ensures { λ r. ⌜ Ready (length (now (input .entry))) (now (t .exit)) (now (line .exit)) (now (out .exit)) (r .state) ⌝ }
-{
-    let got = libc::read(STDIN_FILENO, input);
-    let n = io::count(got, input);
-    if n == 0 {
-        return Turn {
-            state: s,
-            goes_on: false,
-        };
-    }
-    let fed = counter::feed(t, line, s, &input[..n], out);
-    let goes_on = io::write_all(STDOUT_FILENO, &out[..fed.printed]);
-    Turn {
-        state: fed.written(),
-        goes_on,
-    }
-}
-
-// A proved loop has to end, so it counts its turns down, from a number that no run uses up.
-fn serve_all(t: &mut [u16], line: &mut [u8], s: State, input: &mut [u8], out: &mut [u8]) -> State
-    requires { ⌜ Ready (length (now input)) (now t) (now line) (now out) s ⌝ }
-    ensures { λ r. ⌜ Ready (length (now (input .entry))) (now (t .exit)) (now (line .exit)) (now (out .exit)) r ⌝ }
-{
-    let mut state = s;
-    let mut turns = u64::MAX;
-    while turns > 0 {
-        let turn = serve_some(t, line, state, input, out);
-        state = turn.state;
-        if !turn.goes_on {
-            return state;
+// What a clerk is told if the answers end early.
+fn tell(ending: Ending) {
+    match ending {
+        Ending::InputEnded => {}
+        Ending::ReadFailed => {
+            io::write_all(
+                STDERR_FILENO,
+                b"gust: the input could not be read to its end; what came before is answered\n",
+            );
         }
-        turns -= 1;
+        Ending::TurnsSpent => {
+            io::write_all(
+                STDERR_FILENO,
+                b"gust: no more is read; what came before is answered\n",
+            );
+        }
+        Ending::NotWritten => {
+            io::write_all(
+                STDERR_FILENO,
+                b"gust: the answers could not be written; what was asked from there on is not answered\n",
+            );
+        }
     }
-    state
 }
 
-// The end of the input, a failed read and a closed output end it.
-fn serve(t: &mut [u16], line: &mut [u8], input: &mut [u8], out: &mut [u8])
-    requires { ⌜ MayServe (now t) (now line) (now input) (now out) ⌝ }
+fn run()
+    ensures { λ _. ⌜ WholeRun ⌝ }
 {
-    let opened = counter::open(t);
-    let served = serve_all(t, line, opened, input, out);
-    let last = counter::finish(t, line, served, out);
-    io::write_all(STDOUT_FILENO, &out[..last.printed]);
-}
-
-// What is read at once.
-fn chunk() -> [u8; 8192]
-    ensures { λ r. ⌜ 8192 ≡ length r ⌝ }
-{
-    [0; 8192]
-}
-
-// Room for the longest answer to every byte of a chunk, each of which could end a line.
-fn answers() -> [u8; 598016]
-    ensures { λ r. ⌜ 598016 ≡ length r ⌝ }
-{
-    [0; 598016]
+    // A page table of 180 empty pages.
+    let mut table = [0u16; 30600];
+    let mut line = [0u8; State::LINE];
+    let mut input = [0u8; Turn::CHUNK];
+    let mut out = [0u8; Turn::ANSWERS];
+    tell(serving::serve(&mut table, &mut line, &mut input, &mut out));
 }
 
 fn main() {
-    // A page table of 180 empty pages.
-    let mut table = [0u16; 30600];
-    let mut line = [0u8; 81];
-    let mut input = chunk();
-    let mut out = answers();
-    serve(&mut table, &mut line, &mut input, &mut out);
+    run();
 }

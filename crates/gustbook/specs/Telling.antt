@@ -6,8 +6,8 @@ use Rattle.asking.specs.Asking.{asked}
 use Rattle.asking.specs.declared.Asked.{Asked}
 use Rattle.asking.specs.declared.Asked.the-variants as say
 use Rattle.ground.specs.declared.boxes.Box.{Box}
-use Rattle.index.specs.Calls.{Left, Saved, counted, saved}
-use Rattle.index.specs.CallLaws.{leftOf}
+use Rattle.index.specs.Calls.{Left, Saved, countAnswer, countSays, counted, saved}
+use Rattle.index.specs.CallLaws.{leftOf, count-is}
 use Rattle.index.specs.declared.Counted.{Counted}
 use Rattle.index.specs.declared.Counted.the-variants as tell
 use Rattle.index.specs.declared.Ended.{Ended}
@@ -39,8 +39,8 @@ pub ask-told : (t five six lent : List ℕ) (s : Small) (q : Box) (x : Asked) (y
     → y ≡ askTold x lent → y ≡ askTold (asked t (smallOf five) (boxOf six)) lent
 ask-told t five six lent s q x y hs hq hx h = h ∙ ap (λ a. askTold a lent) (hx ∙ ap₂ (asked t) hs hq ∙ ask-wide t (smallOf five) (wideOf six))
 
-pub count-told : (t five lent : List ℕ) (s : Small) (x : Counted) (y : Told) → s ≡ smallOf five → x ≡ counted t s → y ≡ countTold x lent → y ≡ countTold (counted t (smallOf five)) lent
-count-told t five lent s x y hs hx h = h ∙ ap (λ a. countTold a lent) (hx ∙ ap (counted t) hs)
+pub count-told : (t five lent : List ℕ) (s : Small) (x : Counted) (y : Told) → s ≡ smallOf five → countSays x ≡ countAnswer t s → y ≡ countTold x lent → y ≡ countTold (counted t (smallOf five)) lent
+count-told t five lent s x y hs hx h = h ∙ ap (λ a. countTold a lent) (count-is t s x hx ∙ ap (counted t) hs)
 
 pub save-told : (t five out : List ℕ) (s : Small) (y : Saved) → s ≡ smallOf five → y ≡ saved t s out → y ≡ saved t (smallOf five) out
 save-told t five out s y hs h = h ∙ ap (λ x. saved t x out) hs

@@ -8,16 +8,23 @@ use Rattle.image.specs.Bytes.{bytes16, bytes32, number, wordBytes, byteW
 use Rattle.image.specs.declared.trailer.Trailer.{Trailer}
 use Rattle.image.specs.declared.ImagePages.{ImagePages}
 use Rattle.image.specs.declared.ImagePages.the-variants.{Pages, WrongSize}
-use Rattle.pages.specs.Layout.{mostPages, pagesIn}
+use Rattle.pages.specs.Layout.{pageWords, mostPages, pagesIn}
 use Rattle.pages.specs.declared.Small.{Small}
 
 -- The form of the images that this book saves.
 abbrev pub imageForm : ℕ
 imageForm = 1
 
+-- Rules 6.1, 6.2, 6.6: a page takes 340 bytes, two for each word, and the trailer 22.
+abbrev pub pageBytes : ℕ
+pageBytes = 2 * pageWords
+
+abbrev pub trailerLength : ℕ
+trailerLength = 22
+
 -- Rule 6.6: length is 340 × pages + 22.
 abbrev pub imageLength : ℕ → ℕ
-imageLength pages = 340 * pages + 22
+imageLength pages = pageBytes * pages + trailerLength
 
 -- Rule 6.3: the trailer, distance, pages, height, accepted, struck, covered, form.
 unfoldable pub trailerBytes : Trailer → List ℕ
@@ -28,7 +35,7 @@ trailerBytes t =
 unfoldable pub trailerFor : ℕ → ℕ → Small → Trailer
 trailerFor form pages small =
     record {
-      distance = 340 * (pages - small .root);
+      distance = pageBytes * (pages - small .root);
       pages = pages;
       height = small .height;
       accepted = small .accepted;
@@ -47,11 +54,11 @@ sized true pages = Pages pages
 sized false pages = WrongSize
 
 unfoldable pub imagePages : ℕ → ImagePages
-imagePages n = sized (eqb n (imageLength (n / 340)) && leb 1 (n / 340) && leb (n / 340) mostPages) (n / 340)
+imagePages n = sized (eqb n (imageLength (n / pageBytes)) && leb 1 (n / pageBytes) && leb (n / pageBytes) mostPages) (n / pageBytes)
 
 -- Rules 6.1, 6.7: the table is all but the last 22 bytes.
 unfoldable pub tableOf : List ℕ → List ℕ
-tableOf image = byteWords (take (length image - 22) image)
+tableOf image = byteWords (take (length image - trailerLength) image)
 
 -- The number that n bytes are, from a place on.
 abbrev pub field : ℕ → ℕ → List ℕ → ℕ
@@ -71,15 +78,15 @@ trailerIn bytes =
 
 -- Rule 6.1: the trailer is the last 22 bytes.
 unfoldable pub trailerOf : List ℕ → Trailer
-trailerOf image = trailerIn (drop (length image - 22) image)
+trailerOf image = trailerIn (drop (length image - trailerLength) image)
 
 -- Rule 7.8: refusal 8 is given if the form is another, pages is not P, or distance is not 340 times a number from 1 to P. A trailer is good if it is not given.
 abbrev pub pagesBack : Trailer → ℕ
-pagesBack t = t .distance / 340
+pagesBack t = t .distance / pageBytes
 
 unfoldable pub trailerGood : ℕ → ℕ → Trailer → Bool
 trailerGood form pages t =
-    eqb (t .form) form && eqb (t .pages) pages && (eqb (t .distance) (340 * pagesBack t) && leb 1 (pagesBack t) && leb (pagesBack t) pages)
+    eqb (t .form) form && eqb (t .pages) pages && (eqb (t .distance) (pageBytes * pagesBack t) && leb 1 (pagesBack t) && leb (pagesBack t) pages)
 
 -- Rule 6.7: the small record. The root lies so many pages before the end.
 unfoldable pub smallOf : Trailer → Small

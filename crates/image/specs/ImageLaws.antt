@@ -11,8 +11,8 @@ use lib.Seq.{take-at, drop-at}
 use Rattle.ground.specs.Tests.{three, joint-three}
 use Rattle.image.specs.Bytes.{wordBytes}
 use Rattle.image.specs.ByteLaws.{Below, below-take, below-drop, length-wordBytes, length-byteWords, byteWords-wordBytes, wordBytes-byteWords}
-use Rattle.pages.specs.Layout.{mostPages, pagesIn}
-use Rattle.image.specs.Image.{imageLength, imageOf, imagePages, pagesBack, sized, smallOf, tableOf, trailerBytes, trailerFor, trailerGood, trailerIn, trailerOf}
+use Rattle.pages.specs.Layout.{pageWords, mostPages, pagesIn}
+use Rattle.image.specs.Image.{pageBytes, trailerLength, imageLength, imageOf, imagePages, pagesBack, sized, smallOf, tableOf, trailerBytes, trailerFor, trailerGood, trailerIn, trailerOf}
 use Rattle.image.specs.TrailerLaws.{Fitting, good, good-so, length-trailerBytes, trailerBytes-trailerIn, trailerIn-trailerBytes}
 use Rattle.image.specs.declared.ImagePages.the-variants.{Pages, WrongSize}
 use Rattle.image.specs.declared.trailer.Trailer.{Trailer}
@@ -27,40 +27,40 @@ pub record Sized (n pages : ℕ) : Type 0 where
 pub pages-of-length : (n pages : ℕ) → Sized n pages → imagePages n ≡ Pages pages
 unfolding imagePages
 pages-of-length n pages h =
-    let same : n / 340 ≡ pages = omega arith in
+    let same : n / pageBytes ≡ pages = omega arith in
     let fits : eqb n (imageLength pages) && leb 1 pages && leb pages mostPages ≡ true =
     joint-three (eqb n (imageLength pages)) (leb 1 pages) (leb pages mostPages) (eq-eqb n (imageLength pages) (h .length)) (le-leb 1 pages (h .least)) (le-leb pages mostPages (h .most)) in
     rw (same, fits)
 
 pub length-of-pages : (n pages : ℕ) → imagePages n ≡ Pages pages → Sized n pages
 unfolding imagePages
-length-of-pages n pages e = by-test (eqb n (imageLength (n / 340)) && leb 1 (n / 340) && leb (n / 340) mostPages) refl e
+length-of-pages n pages e = by-test (eqb n (imageLength (n / pageBytes)) && leb 1 (n / pageBytes) && leb (n / pageBytes) mostPages) refl e
   where
-    by-test : (t : Bool) → eqb n (imageLength (n / 340)) && leb 1 (n / 340) && leb (n / 340) mostPages ≡ t → sized t (n / 340) ≡ Pages pages → Sized n pages
+    by-test : (t : Bool) → eqb n (imageLength (n / pageBytes)) && leb 1 (n / pageBytes) && leb (n / pageBytes) mostPages ≡ t → sized t (n / pageBytes) ≡ Pages pages → Sized n pages
     by-test true f g =
-        let same : n / 340 ≡ pages = cc in
-        let h = three (eqb n (imageLength (n / 340))) (leb 1 (n / 340)) (leb (n / 340) mostPages) f in
-        let told = eqb-true n (imageLength (n / 340)) (h .0) in
-        let low = leb-true 1 (n / 340) (h .1) in
-        let high = leb-true (n / 340) mostPages (h .2) in
+        let same : n / pageBytes ≡ pages = cc in
+        let h = three (eqb n (imageLength (n / pageBytes))) (leb 1 (n / pageBytes)) (leb (n / pageBytes) mostPages) f in
+        let told = eqb-true n (imageLength (n / pageBytes)) (h .0) in
+        let low = leb-true 1 (n / pageBytes) (h .1) in
+        let high = leb-true (n / pageBytes) mostPages (h .2) in
         record { length = omega arith; least = omega arith; most = omega arith }
     by-test false f g = let z : _≡_ {A = ℕ} 0 1 = cc in absurd (omega arith)
 
 pub no-pages : (n pages : ℕ) → imagePages n ≡ WrongSize → Sized n pages → ⊥
 no-pages n pages e h = let z : _≡_ {A = ℕ} 0 1 = cc (pages-of-length n pages h) in omega arith
 
-pub length-imageOf : (form : ℕ) (table : List ℕ) (small : Small) → length (imageOf form table small) ≡ 2 * length table + 22
+pub length-imageOf : (form : ℕ) (table : List ℕ) (small : Small) → length (imageOf form table small) ≡ 2 * length table + trailerLength
 unfolding imageOf
 length-imageOf form table small =
     let trailer : Trailer = trailerFor form (pagesIn table) small in
     omega (arith, length-append (wordBytes table) (trailerBytes trailer), length-wordBytes table, length-trailerBytes trailer)
 
-pub image-length : (form pages : ℕ) (table : List ℕ) (small : Small) → length table ≡ 170 * pages → length (imageOf form table small) ≡ imageLength pages
+pub image-length : (form pages : ℕ) (table : List ℕ) (small : Small) → length table ≡ pageWords * pages → length (imageOf form table small) ≡ imageLength pages
 image-length form pages table small e = omega (arith, length-imageOf form table small)
 
-pub table-length : (pages : ℕ) (image : List ℕ) → length image ≡ imageLength pages → length (tableOf image) ≡ 170 * pages
+pub table-length : (pages : ℕ) (image : List ℕ) → length image ≡ imageLength pages → length (tableOf image) ≡ pageWords * pages
 unfolding tableOf
-table-length pages image e = length-byteWords (170 * pages) (take (length image - 22) image) (omega (arith, length-take (length image - 22) image))
+table-length pages image e = length-byteWords (pageWords * pages) (take (length image - trailerLength) image) (omega (arith, length-take (length image - trailerLength) image))
 
 -- a book whose root is a page and whose numbers have room in the trailer
 pub record Savable (pages : ℕ) (small : Small) : Type 0 where
@@ -100,31 +100,31 @@ unfolding tableOf imageOf
 loaded-table form table small h =
     let trailer : List ℕ = trailerBytes (trailerFor form (pagesIn table) small) in
     let words : List ℕ = wordBytes table in
-    let long : length words ≡ length (words ++ trailer) - 22 = omega (arith, length-append words trailer, length-trailerBytes (trailerFor form (pagesIn table) small)) in
-    rw (take-at words trailer (length (words ++ trailer) - 22) long) (byteWords-wordBytes table h)
+    let long : length words ≡ length (words ++ trailer) - trailerLength = omega (arith, length-append words trailer, length-trailerBytes (trailerFor form (pagesIn table) small)) in
+    rw (take-at words trailer (length (words ++ trailer) - trailerLength) long) (byteWords-wordBytes table h)
 
 -- its trailer
 pub loaded-trailer :
-    (form pages : ℕ) (table : List ℕ) (small : Small) → form < 65_536 → length table ≡ 170 * pages → Savable pages small
+    (form pages : ℕ) (table : List ℕ) (small : Small) → form < 65_536 → length table ≡ pageWords * pages → Savable pages small
     → trailerOf (imageOf form table small) ≡ trailerFor form pages small
 unfolding trailerOf imageOf
 loaded-trailer form pages table small f e h =
     let trailer : List ℕ = trailerBytes (trailerFor form (pagesIn table) small) in
     let words : List ℕ = wordBytes table in
-    let long : length words ≡ length (words ++ trailer) - 22 = omega (arith, length-append words trailer, length-trailerBytes (trailerFor form (pagesIn table) small)) in
+    let long : length words ≡ length (words ++ trailer) - trailerLength = omega (arith, length-append words trailer, length-trailerBytes (trailerFor form (pagesIn table) small)) in
     let same : pagesIn table ≡ pages = omega arith in
-    ap trailerIn (drop-at words trailer (length (words ++ trailer) - 22) long)
+    ap trailerIn (drop-at words trailer (length (words ++ trailer) - trailerLength) long)
     ∙ ap (λ (p : ℕ). trailerIn (trailerBytes (trailerFor form p small))) same
     ∙ trailerIn-trailerBytes (trailerFor form pages small) (saved-fits form pages small f h)
 
 pub loaded-good :
-    (form pages : ℕ) (table : List ℕ) (small : Small) → form < 65_536 → length table ≡ 170 * pages → Savable pages small
+    (form pages : ℕ) (table : List ℕ) (small : Small) → form < 65_536 → length table ≡ pageWords * pages → Savable pages small
     → trailerGood form pages (trailerOf (imageOf form table small)) ≡ true
 loaded-good form pages table small f e h = rw (loaded-trailer form pages table small f e h) (saved-good form pages small h)
 
 -- and the small record
 pub loaded-small :
-    (form pages : ℕ) (table : List ℕ) (small : Small) → form < 65_536 → length table ≡ 170 * pages → Savable pages small
+    (form pages : ℕ) (table : List ℕ) (small : Small) → form < 65_536 → length table ≡ pageWords * pages → Savable pages small
     → smallOf (trailerOf (imageOf form table small)) ≡ small
 loaded-small form pages table small f e h = ap smallOf (loaded-trailer form pages table small f e h) ∙ saved-small form pages small h
 
@@ -133,7 +133,7 @@ pub again-trailer : (form pages : ℕ) (t : Trailer) → trailerGood form pages 
 unfolding trailerFor smallOf
 again-trailer form pages t e i =
     let h = good form pages t e in
-    let back : 340 * (pages - (t .pages - pagesBack t)) ≡ t .distance = omega arith in
+    let back : pageBytes * (pages - (t .pages - pagesBack t)) ≡ t .distance = omega arith in
     record {
       distance = back i;
       pages = sym (h .same-pages) i;
@@ -153,8 +153,8 @@ loaded-root form pages t e = let h = good form pages t e in omega arith
 parts-again : (pages : ℕ) (image : List ℕ) → length image ≡ imageLength pages → Below 256 image → wordBytes (tableOf image) ++ trailerBytes (trailerOf image) ≡ image
 unfolding tableOf trailerOf
 parts-again pages image e h =
-    let at : ℕ = length image - 22 in
-    let words = wordBytes-byteWords (170 * pages) (take at image) (omega (arith, length-take at image)) (below-take 256 at image h) in
+    let at : ℕ = length image - trailerLength in
+    let words = wordBytes-byteWords (pageWords * pages) (take at image) (omega (arith, length-take at image)) (below-take 256 at image h) in
     let trailer = trailerBytes-trailerIn (drop at image) (omega (arith, length-drop at image)) (below-drop 256 at image h) in
     rw (words, trailer) (take-append-drop at image)
 

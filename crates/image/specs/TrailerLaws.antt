@@ -12,7 +12,7 @@ use lib.Seq.{take-add, take-all, length-take-le}
 use Rattle.ground.specs.Tests.{three, joint-three}
 use Rattle.image.specs.Bytes.{lowFirst, bytes16, bytes32, number, wordBytes, byteWords}
 use Rattle.image.specs.ByteLaws.{Below, below-take, below-drop, number-lowFirst, lowFirst-number, wordBytes-append}
-use Rattle.image.specs.Image.{trailerBytes, trailerIn, trailerGood, field, pagesBack}
+use Rattle.image.specs.Image.{pageBytes, trailerLength, trailerBytes, trailerIn, trailerGood, field, pagesBack}
 use Rattle.image.specs.declared.trailer.Trailer.{Trailer}
 
 -- a number of 16 bits is one word, and one of 32 bits two, the low one first
@@ -93,7 +93,7 @@ long-at (suc k) (a ∷ b ∷ bs) h =
 
 -- so the trailer is read off eleven words
 pub trailer-read :
-    (bs : List ℕ) → length bs ≡ 22
+    (bs : List ℕ) → length bs ≡ trailerLength
     → trailerIn bs
     ≡ record {
       distance = getD (byteWords bs) 0 0 + 65_536 * getD (byteWords bs) 1 0;
@@ -126,7 +126,7 @@ pub record Fitting (t : Trailer) : Type 0 where
   pub covered : t .covered < 4_294_967_296
   pub form : t .form < 65_536
 
-pub length-trailerBytes : (t : Trailer) → length (trailerBytes t) ≡ 22
+pub length-trailerBytes : (t : Trailer) → length (trailerBytes t) ≡ trailerLength
 unfolding trailerBytes lowFirst
 length-trailerBytes t = refl
 
@@ -152,7 +152,7 @@ field-bytes n place bs h l =
     ap (λ (m : ℕ). lowFirst m (number part)) (sym long) ∙ lowFirst-number part (below-take 256 n (drop place bs) (below-drop 256 place bs h))
 
 -- and bytes are those of the trailer that they hold
-pub trailerBytes-trailerIn : (bs : List ℕ) → length bs ≡ 22 → Below 256 bs → trailerBytes (trailerIn bs) ≡ bs
+pub trailerBytes-trailerIn : (bs : List ℕ) → length bs ≡ trailerLength → Below 256 bs → trailerBytes (trailerIn bs) ≡ bs
 unfolding trailerBytes trailerIn
 trailerBytes-trailerIn bs e h =
     rw (
@@ -169,13 +169,13 @@ trailerBytes-trailerIn bs e h =
       ← (take-add 12 4 bs),
       ← (take-add 16 4 bs),
       ← (take-add 20 2 bs),
-    ) (take-all 22 bs (omega arith))
+    ) (take-all trailerLength bs (omega arith))
 
 -- a good trailer, as facts on numbers
 pub record Good (form pages : ℕ) (t : Trailer) : Type 0 where
   pub same-form : t .form ≡ form
   pub same-pages : t .pages ≡ pages
-  pub distance : t .distance ≡ 340 * pagesBack t
+  pub distance : t .distance ≡ pageBytes * pagesBack t
   pub least : 1 ≤ pagesBack t
   pub most : pagesBack t ≤ pages
 
@@ -183,12 +183,12 @@ pub good : (form pages : ℕ) (t : Trailer) → trailerGood form pages t ≡ tru
 unfolding trailerGood
 good form pages t e =
     let back = pagesBack t in
-    let h = three (eqb (t .form) form) (eqb (t .pages) pages) (eqb (t .distance) (340 * back) && leb 1 back && leb back pages) e in
-    let k = three (eqb (t .distance) (340 * back)) (leb 1 back) (leb back pages) (h .2) in
+    let h = three (eqb (t .form) form) (eqb (t .pages) pages) (eqb (t .distance) (pageBytes * back) && leb 1 back && leb back pages) e in
+    let k = three (eqb (t .distance) (pageBytes * back)) (leb 1 back) (leb back pages) (h .2) in
     record {
       same-form = eqb-true (t .form) form (h .0);
       same-pages = eqb-true (t .pages) pages (h .1);
-      distance = eqb-true (t .distance) (340 * back) (k .0);
+      distance = eqb-true (t .distance) (pageBytes * back) (k .0);
       least = leb-true 1 back (k .1);
       most = leb-true back pages (k .2);
     }
@@ -197,14 +197,14 @@ pub good-so : (form pages : ℕ) (t : Trailer) → Good form pages t → trailer
 unfolding trailerGood
 good-so form pages t h =
     let back = pagesBack t in
-    joint-three (eqb (t .form) form) (eqb (t .pages) pages) (eqb (t .distance) (340 * back) && leb 1 back && leb back pages)
+    joint-three (eqb (t .form) form) (eqb (t .pages) pages) (eqb (t .distance) (pageBytes * back) && leb 1 back && leb back pages)
     (eq-eqb (t .form) form (h .same-form))
     (eq-eqb (t .pages) pages (h .same-pages))
-    (joint-three (eqb (t .distance) (340 * back)) (leb 1 back) (leb back pages)
-    (eq-eqb (t .distance) (340 * back) (h .distance))
+    (joint-three (eqb (t .distance) (pageBytes * back)) (leb 1 back) (leb back pages)
+    (eq-eqb (t .distance) (pageBytes * back) (h .distance))
     (le-leb 1 back (h .least))
     (le-leb back pages (h .most)))
 
 -- the distance is 340 times a number from 1 to P exactly if it is so with the number that dividing gives
-pub some-pages-back : (t : Trailer) (k : ℕ) → t .distance ≡ 340 * k → pagesBack t ≡ k
+pub some-pages-back : (t : Trailer) (k : ℕ) → t .distance ≡ pageBytes * k → pagesBack t ≡ k
 some-pages-back t k e = omega arith

@@ -11,7 +11,7 @@ use words::write_words;
 ghost use mathlib.Core.Path.{_≡_};
 ghost use Prim.Native.Nat.{_+_, _*_};
 ghost use lib.ListN.{length};
-ghost use Rattle.image.specs.Image.{imageOf, imagePages, tableOf};
+ghost use Rattle.image.specs.Image.{trailerLength, imageOf, imagePages, tableOf};
 pub use trailer::Trailer;
 
 // How many pages an image of some length has.
@@ -35,7 +35,7 @@ pub fn image_pages(length: usize) -> ImagePages
 
 // Saves a book into a buffer of the image's length.
 pub fn encode(table: &[u16], small: Small, form: u16, out: &mut [u8])
-    requires { ⌜ length (now out) ≡ 2 * length (now table) + 22 ⌝ }
+    requires { ⌜ length (now out) ≡ 2 * length (now table) + trailerLength ⌝ }
     ensures { λ _. ⌜ now (out .exit) ≡ imageOf form (now (table .entry)) small ⌝ }
 {
     let start = 2 * table.len();
@@ -46,7 +46,7 @@ pub fn encode(table: &[u16], small: Small, form: u16, out: &mut [u8])
 
 // Loads the pages of an image into a table of its size. The trailer is read apart.
 pub fn decode(image: &[u8], table: &mut [u16])
-    requires { ⌜ length (now image) ≡ 2 * length (now table) + 22 ⌝ }
+    requires { ⌜ length (now image) ≡ 2 * length (now table) + trailerLength ⌝ }
     ensures { λ _. ⌜ now (table .exit) ≡ tableOf (now (image .entry)) ⌝ }
 {
     let end = image.len() - Trailer::BYTES;

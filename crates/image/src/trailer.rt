@@ -7,7 +7,7 @@ ghost use mathlib.Core.Path.{_≡_};
 ghost use Prim.Native.Nat.{_+_, _*_, _-_, _/_, _%_, _^_, _≤_, _<_};
 ghost use lib.ListN.{length};
 ghost use Rattle.image.specs.Bytes.{wordBytes};
-ghost use Rattle.image.specs.Image.{trailerBytes, trailerFor, trailerOf, trailerGood, smallOf};
+ghost use Rattle.image.specs.Image.{pageBytes, trailerLength, trailerBytes, trailerFor, trailerOf, trailerGood, smallOf};
 
 pub struct Trailer {
     // In bytes, from the trailer's start back to the root page.
@@ -21,17 +21,19 @@ pub struct Trailer {
 }
 
 impl Trailer {
-    pub const BYTES: usize = 22;
+    pub const WORDS: usize = 11;
+
+    pub const BYTES: usize = 2 * Trailer::WORDS;
     // The one place that says which form images have.
     pub const FORM: u16 = 1;
 
     // The trailer of an image: its last 22 bytes.
     pub fn read(image: &[u8]) -> Trailer
-        requires { ⌜ 22 ≤ length (now image) ⌝ }
+        requires { ⌜ trailerLength ≤ length (now image) ⌝ }
         ensures { λ r. ⌜ r ≡ trailerOf (now (image .entry)) ⌝ }
     {
         let start = image.len() - Trailer::BYTES;
-        let mut words = [0u16; 11];
+        let mut words = [0u16; Trailer::WORDS];
         read_words(&image[start..], &mut words);
         Trailer {
             distance: long(words[0], words[1]),
@@ -71,8 +73,8 @@ impl Trailer {
 }
 
 // The words of the trailer for a book of so many pages. A number too great for its place is cut to its low bytes.
-pub fn trailer_words(pages: usize, small: Small, form: u16) -> [u16; 11]
-    requires { ⌜ 340 * pages < 2 ^ 64 ⌝ }
+pub fn trailer_words(pages: usize, small: Small, form: u16) -> [u16; Trailer::WORDS]
+    requires { ⌜ pageBytes * pages < 2 ^ 64 ⌝ }
     ensures { λ r. ⌜ wordBytes r ≡ trailerBytes (trailerFor form pages small) ⌝ }
 {
     let distance = Page::IMAGE_BYTES * less(pages, small.root as usize);

@@ -9,7 +9,7 @@ use borrow.Author.Tests.{not-true, not-false, eq-eqb, ne-eqb, eqb-true}
 use lib.Dec.{leb, eqb}
 use lib.ListN.{length, set, replicate, take, length-take}
 use Rattle.ground.specs.Tests.{both}
-use Rattle.image.specs.Image.{imageForm, imageLength, imageOf, imagePages, trailerOf, trailerGood, smallOf, tableOf as imageTable}
+use Rattle.image.specs.Image.{trailerLength, imageForm, imageLength, imageOf, imagePages, trailerOf, trailerGood, smallOf, tableOf as imageTable}
 use Rattle.image.specs.ByteLaws.{length-byteWords}
 use Rattle.image.specs.ImageLaws.{length-of-pages}
 use Rattle.image.specs.declared.ImagePages.{ImagePages}
@@ -28,7 +28,7 @@ use Rattle.wellformed.specs.VerdictLaws.{well-held, well-damaged, well-count}
 use Rattle.index.specs.declared.Counted.{Counted}
 use Rattle.index.specs.declared.Counted.the-variants.{Refused, Counts}
 use Rattle.index.specs.declared.Ended.{Ended}
-use Rattle.index.specs.Calls.{Left, Saved, unchanged, emptyBook, cleared, countsOf, counted, countSays, saveRefusal, saved, imageRefusal, pagesRefusal, imageSmall, loadedPages, loaded}
+use Rattle.index.specs.Calls.{Left, Saved, unchanged, emptyBook, cleared, CountSaid.NotCounted, CountSaid.Numbers, numbersOf, countAnswer, countSays, caseOf, counted, saveRefusal, saved, imageRefusal, pagesRefusal, imageSmall, loadedPages, loaded}
 
 -- What a call leaves, by the code's answer.
 abbrev pub leftOf : List ℕ → Ended → Left
@@ -43,41 +43,38 @@ module _ (t : List ℕ) (s : Small) (b : Bool) (e : b ≡ tableFits t) where
   unfolding cleared
   clear-done u r h f g = rw (sym e ∙ not-false b h) (λ i. record { refusal = 0; table = f i; small = g i })
 
-  pub count-unfit : not b ≡ true → Refused 1 ≡ counted t s
-  unfolding counted
+  pub count-unfit : not b ≡ true → NotCounted 1 ≡ countAnswer t s
   count-unfit h = rw (sym e ∙ not-true b h)
 
-  pub count-damaged : (k : Checked) → not b ≡ false → k ≡ checked t s → k ≡ Damaged → Refused 4 ≡ counted t s
-  unfolding counted
+  pub count-damaged : (k : Checked) → not b ≡ false → k ≡ checked t s → k ≡ Damaged → NotCounted 4 ≡ countAnswer t s
   count-damaged k h f g = rw (sym e ∙ not-false b h, sym (well-damaged t s k f g))
 
-  pub count-held : (k : Checked) (n : ℕ) → not b ≡ false → k ≡ checked t s → k ≡ Held n → Counts (s .accepted) n (s .struck) (s .covered) ≡ counted t s
-  unfolding counted
-  count-held k n h f g = rw (sym e ∙ not-false b h, sym (well-held t s k f n g)) (ap (λ m. Counts (s .accepted) m (s .struck) (s .covered)) (well-count t s k f n g))
+  pub count-held : (k : Checked) (n : ℕ) → not b ≡ false → k ≡ checked t s → k ≡ Held n → Numbers (s .accepted) n (s .struck) (s .covered) ≡ countAnswer t s
+  count-held k n h f g = rw (sym e ∙ not-false b h, sym (well-held t s k f n g)) (ap (λ m. Numbers (s .accepted) m (s .struck) (s .covered)) (well-count t s k f n g))
 
   pub save-unfit : (out : List ℕ) → not b ≡ true → record { refusal = 1; buffer = out } ≡ saved t s out
   unfolding saved saveRefusal
   save-unfit out h = rw (sym e ∙ not-true b h)
 
   -- the buffer's length, as the code reckons it
-  image-long : (out : List ℕ) → not b ≡ false → (length out ≡ 2 * length t + 22) ↔ (length out ≡ imageLength (pagesIn t))
+  image-long : (out : List ℕ) → not b ≡ false → (length out ≡ 2 * length t + trailerLength) ↔ (length out ≡ imageLength (pagesIn t))
   image-long out h = let f = fitting t (sym e ∙ not-false b h) in (λ x. omega arith, λ x. omega arith)
 
-  pub save-wrong-size : (out : List ℕ) → not b ≡ false → (length out ≡ 2 * length t + 22 → ⊥) → record { refusal = 7; buffer = out } ≡ saved t s out
+  pub save-wrong-size : (out : List ℕ) → not b ≡ false → (length out ≡ 2 * length t + trailerLength → ⊥) → record { refusal = 7; buffer = out } ≡ saved t s out
   unfolding saved saveRefusal
   save-wrong-size out h d = rw (sym e ∙ not-false b h, ne-eqb (length out) (imageLength (pagesIn t)) (λ x. d (image-long out h .1 x)))
 
-  pub save-damaged : (out : List ℕ) (k : Checked) → not b ≡ false → length out ≡ 2 * length t + 22 → k ≡ checked t s → k ≡ Damaged → record { refusal = 4; buffer = out } ≡ saved t s out
+  pub save-damaged : (out : List ℕ) (k : Checked) → not b ≡ false → length out ≡ 2 * length t + trailerLength → k ≡ checked t s → k ≡ Damaged → record { refusal = 4; buffer = out } ≡ saved t s out
   unfolding saved saveRefusal
   save-damaged out k h l f g = rw (sym e ∙ not-false b h, eq-eqb (length out) (imageLength (pagesIn t)) (image-long out h .0 l), sym (well-damaged t s k f g))
 
-  pub save-done : (out now : List ℕ) (k : Checked) (n : ℕ) → not b ≡ false → length out ≡ 2 * length t + 22 → k ≡ checked t s → k ≡ Held n → now ≡ imageOf imageForm t s → record { refusal = 0; buffer = now } ≡ saved t s out
+  pub save-done : (out now : List ℕ) (k : Checked) (n : ℕ) → not b ≡ false → length out ≡ 2 * length t + trailerLength → k ≡ checked t s → k ≡ Held n → now ≡ imageOf imageForm t s → record { refusal = 0; buffer = now } ≡ saved t s out
   unfolding saved saveRefusal
   save-done out now k n h l f g q =
       rw (sym e ∙ not-false b h, eq-eqb (length out) (imageLength (pagesIn t)) (image-long out h .0 l), sym (well-held t s k f n g)) (λ i. record { refusal = 0; buffer = q i })
 
 -- an image whose length tells its pages has a trailer
-pub image-words : (n p : ℕ) (k : ImagePages) → k ≡ imagePages n → k ≡ Pages p → 22 ≤ n
+pub image-words : (n p : ℕ) (k : ImagePages) → k ≡ imagePages n → k ≡ Pages p → trailerLength ≤ n
 image-words n p k e f = let h = length-of-pages n p (sym e ∙ f) in omega (arith, h .length)
 
 module _ (image t : List ℕ) (k : ImagePages) (e : k ≡ imagePages (length image)) where
@@ -89,7 +86,7 @@ module _ (image t : List ℕ) (k : ImagePages) (e : k ≡ imagePages (length ima
   refused-7 f = by-pages 7 (ap (pagesRefusal image t) (sym f))
 
   module _ (p : ℕ) (f : k ≡ Pages p) where
-    pub image-fits : length t ≡ pageWords * p → length image ≡ 2 * length t + 22
+    pub image-fits : length t ≡ pageWords * p → length image ≡ 2 * length t + trailerLength
     image-fits l = let h = length-of-pages (length image) p (sym e ∙ f) in omega (arith, h .length)
 
     pub refused-1 : (length t ≡ pageWords * p → ⊥) → 1 ≡ imageRefusal image t
@@ -124,14 +121,14 @@ passed image t e = by-pages (imagePages (length image)) refl e
         record { pages = p; size = f; fits = eqb-true (length t) (pageWords * p) (g .0); good = g .1 }
 
 -- it has the table's length
-pub read-long : (image t : List ℕ) (n : ℕ) → n ≡ imageRefusal image t → n ≡ 0 → length image ≡ 2 * length t + 22
+pub read-long : (image t : List ℕ) (n : ℕ) → n ≡ imageRefusal image t → n ≡ 0 → length image ≡ 2 * length t + trailerLength
 read-long image t n e z =
     let x = passed image t (sym e ∙ z) in
     image-fits image t (Pages (x .pages)) (sym (x .size)) (x .pages) refl (x .fits)
 
-read-table : (image t : List ℕ) → length image ≡ 2 * length t + 22 → length (imageTable image) ≡ length t
+read-table : (image t : List ℕ) → length image ≡ 2 * length t + trailerLength → length (imageTable image) ≡ length t
 unfolding imageTable
-read-table image t l = length-byteWords (length t) (take (length image - 22) image) (omega (arith, length-take (length image - 22) image))
+read-table image t l = length-byteWords (length t) (take (length image - trailerLength) image) (omega (arith, length-take (length image - trailerLength) image))
 
 module _ (image t : List ℕ) (s : Small) (m : ℕ) (e : m ≡ imageRefusal image t) where
   pub load-refused : (m ≡ 0 → ⊥) → unchanged m t s ≡ loaded image t s
@@ -153,10 +150,16 @@ module _ (image t : List ℕ) (s : Small) (m : ℕ) (e : m ≡ imageRefusal imag
         let c : after ≡ emptyTable t = a ∙ ap (λ n. set (replicate n 0) 0 1) l in
         rw (sym e, z, w) (λ i. record { refusal = 4; table = c i; small = b i })
 
--- on a well-formed book held, struck and covered make up accepted
-pub counts-add-up : (t : List ℕ) (s : Small) → wellFormed t s ≡ true → countSays (counted t s) .held + countSays (counted t s) .struck + countSays (counted t s) .covered ≡ countSays (counted t s) .accepted
-unfolding counted countsStand
+-- the promise of `count` leaves one case
+pub count-is : (t : List ℕ) (s : Small) (r : Counted) → countSays r ≡ countAnswer t s → r ≡ counted t s
+unfolding counted
+count-is t s (Refused number) e = ap caseOf e
+count-is t s (Counts accepted held struck covered) e = ap caseOf e
+
+-- on a well-formed book the numbers are told, and held, struck and covered make up accepted
+pub counts-add-up : (t : List ℕ) (s : Small) → wellFormed t s ≡ true → (countAnswer t s ≡ numbersOf t s) × (length (heldRecords (pagesOf t) s) + s .struck + s .covered ≡ s .accepted)
+unfolding countsStand
 counts-add-up t s w =
     let p = parts t s w in
     let c = both (leb (s .accepted) mostAccepted) (eqb (length (heldRecords (pagesOf t) s) + s .struck + s .covered) (s .accepted)) (p .counts) in
-    rw (p .fits, w) (eqb-true (length (heldRecords (pagesOf t) s) + s .struck + s .covered) (s .accepted) (c .1))
+    (rw (p .fits, w), eqb-true (length (heldRecords (pagesOf t) s) + s .struck + s .covered) (s .accepted) (c .1))

@@ -31,24 +31,29 @@ emptyBook n t = record { refusal = n; table = emptyTable t; small = emptySmall }
 unfoldable pub cleared : List ℕ → Small → Left
 cleared t s = cond (tableFits t) (emptyBook 0 t) (unchanged 1 t s)
 
--- Counting: 1, 4. The four numbers: accepted, held, struck, covered.
-abbrev pub countsOf : List ℕ → Small → Counted
-countsOf t s = Counts (s .accepted) (length (heldRecords (pagesOf t) s)) (s .struck) (s .covered)
+-- Counting: 1, 4. The answer is a refusal's number, or the four numbers: accepted, held, struck, covered.
+pub data CountSaid : Type 0 where
+  NotCounted : ℕ → CountSaid
+  Numbers : ℕ → ℕ → ℕ → ℕ → CountSaid
+
+abbrev pub numbersOf : List ℕ → Small → CountSaid
+numbersOf t s = Numbers (s .accepted) (length (heldRecords (pagesOf t) s)) (s .struck) (s .covered)
+
+abbrev pub countAnswer : List ℕ → Small → CountSaid
+countAnswer t s = cond (tableFits t) (cond (wellFormed t s) (numbersOf t s) (NotCounted 4)) (NotCounted 1)
+
+-- The number and the values of each case of the code's answer.
+abbrev pub countSays : Counted → CountSaid
+countSays (Refused number) = NotCounted number
+countSays (Counts accepted held struck covered) = Numbers accepted held struck covered
+
+-- The case that says it: no other does (`count-is` in CallLaws).
+abbrev pub caseOf : CountSaid → Counted
+caseOf (NotCounted number) = Refused number
+caseOf (Numbers accepted held struck covered) = Counts accepted held struck covered
 
 unfoldable pub counted : List ℕ → Small → Counted
-counted t s = cond (tableFits t) (cond (wellFormed t s) (countsOf t s) (Refused 4)) (Refused 1)
-
--- What each case says in document 01's numbers: the refusal, 0 for none, and the four numbers.
-pub record CountSaid : Type 0 where
-  pub refusal : ℕ
-  pub accepted : ℕ
-  pub held : ℕ
-  pub struck : ℕ
-  pub covered : ℕ
-
-abbrev pub countSays : Counted → CountSaid
-countSays (Refused number) = record { refusal = number; accepted = 0; held = 0; struck = 0; covered = 0 }
-countSays (Counts accepted held struck covered) = record { refusal = 0; accepted = accepted; held = held; struck = struck; covered = covered }
+counted t s = caseOf (countAnswer t s)
 
 -- Saving: 1, 7, 4. The buffer must have the image's length.
 unfoldable pub saveRefusal : List ℕ → Small → List ℕ → ℕ

@@ -21,6 +21,7 @@ use Rattle.pages.specs.declared.Small.{Small}
 use Rattle.wellformed.specs.Parts.{parts}
 use Rattle.wellformed.specs.WellFormed.{page, heldRecords, wellFormed, mostAccepted, rootStands, countsStand}
 use Rattle.recording.specs.RefusalSteps.{sound-small}
+use Rattle.rules.specs.Record.{firstOf}
 use Rattle.index.specs.CallLaws.{passed}
 use Rattle.index.specs.Calls.{Left, Saved, unchanged, emptyBook, saveRefusal, saved, imageRefusal, pagesRefusal, imageSmall, loadedPages, loaded}
 
@@ -48,19 +49,44 @@ not-refused : (image t : List ℕ) (p : ℕ) → imagePages (length image) ≡ P
 unfolding imageRefusal
 not-refused image t p e l g = rw (e, eq-eqb (length t) (pageWords * p) l, g)
 
-pub saved-comes-back : (t u : List ℕ) (s r : Small) → wellFormed t s ≡ true → Below 65_536 t → length u ≡ length t → loaded (imageOf imageForm t s) u r ≡ unchanged 0 t s
+image-comes-back : (t u : List ℕ) (s r : Small) → wellFormed t s ≡ true → Below 65_536 t → length u ≡ length t → loaded (imageOf imageForm t s) u r ≡ unchanged 0 t s
 unfolding loaded
-saved-comes-back t u s r w words l =
+image-comes-back t u s r w words l =
     let p = pagesIn t in
     let k = savable t s w words in
     let f = fitting t (parts t s w .fits) in
-    let long : length t ≡ 170 * p = omega arith in
+    let long : length t ≡ pageWords * p = omega arith in
     let size = pages-of-length (length (imageOf imageForm t s)) p (record { length = image-length imageForm p t s long; least = f .some; most = f .most }) in
     let good = loaded-good imageForm p t s (omega arith) long k in
     let table = loaded-table imageForm t s words in
     let small = loaded-small imageForm p t s (omega arith) long k in
     let n = not-refused (imageOf imageForm t s) u p size (omega arith) good in
     rw (n, table, small, w)
+
+-- a save that is not refused was of a well-formed book, and left its image in the buffer
+saves : (t out : List ℕ) (s : Small) → saved t s out .refusal ≡ 0 → (wellFormed t s ≡ true) × (saved t s out .buffer ≡ imageOf imageForm t s)
+unfolding saved saveRefusal
+saves t out s e = (
+  by-tests (tableFits t) (eqb (length out) (imageLength (pagesIn t))) (wellFormed t s) e,
+  ap (λ (b : Bool). cond b (imageOf imageForm t s) out) (eq-eqb (saveRefusal t s out) 0 e),
+)
+  where
+    by-tests : (a b c : Bool) → firstOf (not a) 1 (firstOf (not b) 7 (firstOf (not c) 4 0)) ≡ 0 → c ≡ true
+    by-tests true true true h = refl
+    by-tests true true false h = absurd (omega arith)
+    by-tests true false c h = absurd (omega arith)
+    by-tests false b c h = absurd (omega arith)
+
+-- What a save that is not refused left in the buffer, loaded into any table of the same length, whatever that and its small record held, is the book that was saved: every word and number. A table's words have 16 bits.
+pub saved-comes-back : (t u out : List ℕ) (s r : Small) → Below 65_536 t → saved t s out .refusal ≡ 0 → length u ≡ length t → loaded (saved t s out .buffer) u r ≡ unchanged 0 t s
+saved-comes-back t u out s r words e l =
+    let k = saves t out s e in
+    ap (λ (image : List ℕ). loaded image u r) (k .1) ∙ image-comes-back t u s r (k .0) words l
+
+-- A well-formed book is never refused if the buffer has the image's length.
+pub sound-saves : (t out : List ℕ) (s : Small) → wellFormed t s ≡ true → length out ≡ imageLength (pagesIn t) → saved t s out .refusal ≡ 0
+unfolding saved saveRefusal
+sound-saves t out s w l = rw (parts t s w .fits, eq-eqb (length out) (imageLength (pagesIn t)) l, w)
 
 -- a load that is not refused left the image's book, which is well-formed
 loads : (image t : List ℕ) (s : Small) → loaded image t s .refusal ≡ 0 → (imageRefusal image t ≡ 0) × (wellFormed (imageTable image) (imageSmall image) ≡ true) × (loaded image t s ≡ unchanged 0 (imageTable image) (imageSmall image))

@@ -5,5 +5,4 @@ pub mod Run
 pub mod RunLaws
 pub mod ImageCalls
 pub mod Settled
-pub mod Marked
 pub mod WideCalls

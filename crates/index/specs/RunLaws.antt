@@ -7,6 +7,7 @@ use native.Mathlib.Omega.{arith}
 use borrow.Author.Tests.{eqb-true, eqb-false}
 use lib.Dec.{eqb}
 use lib.ListN.{length, replicate}
+use Rattle.asking.specs.Asking.{asked, says}
 use Rattle.asking.specs.Answers.{never-refused, answer-is-box-max, pages-touching}
 use Rattle.asking.specs.BoxMax.{greatest, score, boxMax}
 use Rattle.asking.specs.ExactEntries.{All, none-touches, nothing-so}
@@ -28,7 +29,7 @@ use Rattle.rules.specs.Record.{firstOf, refusal, recordInto}
 use Rattle.rules.specs.RecordLaws.{not-refused, refused-law, answered-law, record-law}
 use Rattle.rules.specs.Recording.{recorded, leafEntry}
 use Rattle.index.specs.Calls.{Left, unchanged, emptyBook, cleared, loaded, loadedPages, imageRefusal, pagesRefusal, imageSmall}
-use Rattle.index.specs.Run.{Call, Call.Clear, Call.Record, Call.Ask, Call.Count, Call.Save, Call.Load, Book, held, Moment, turn, run, Answers, Good}
+use Rattle.index.specs.Run.{Call, Call.Clear, Call.Record, Call.Ask, Call.Count, Call.Save, Call.Load, Book, replyTo, held, Moment, turn, run, made, Answers, Good, GoodCall, GoodRun}
 
 -- the held records count for every legal question what the list counts
 pub record Same (t : List ℕ) (s : Small) (l : List Entry) : Type 0 where
@@ -126,17 +127,26 @@ module _ (t : List ℕ) (s : Small) (l : List Entry) (h : Same t s l) where
             };
       }
 
-run-same : (cs : List Call) (t : List ℕ) (s : Small) (l : List Entry) → Same t s l → Good (run cs (record { book = record { table = t; small = s }; list = l }))
-unfolding run
-run-same [] t s l h = good-now t s l h
+  -- every call replies what it should
+  call-good : (c : Call) → GoodCall (record { call = c; found = record { book = record { table = t; small = s }; list = l }; reply = replyTo c (record { table = t; small = s }) })
+  call-good c =
+      record {
+        found-good = good-now;
+        question = λ q e lawful. record { said = says (asked t s q); told = ap (λ d. replyTo d (record { table = t; small = s })) e; right = good-now .answers q lawful };
+      }
+
+run-same : (cs : List Call) (t : List ℕ) (s : Small) (l : List Entry) → Same t s l → GoodRun cs (record { book = record { table = t; small = s }; list = l })
+unfolding run made
+run-same [] t s l h = record { calls = tt; last = good-now t s l h }
 run-same (c ∷ cs) t s l h =
     let m = turn c (record { book = record { table = t; small = s }; list = l }) in
-    run-same cs (m .book .table) (m .book .small) (m .list) (turn-same t s l h c)
+    let rest = run-same cs (m .book .table) (m .book .small) (m .list) (turn-same t s l h c) in
+    record { calls = (call-good t s l h c, rest .calls); last = rest .last }
 
--- From any well-formed book, an empty or a loaded one among them, on a table of any legal size: after any run of calls the book is well-formed, and each legal question answers what the full list gives.
-pub any-run : (cs : List Call) (b : Book) → wellFormed (b .table) (b .small) ≡ true → Good (run cs (record { book = b; list = held b }))
+-- From any well-formed book, an empty or a loaded one among them, on a table of any legal size: at each call of any run the book is well-formed, each legal question is replied to with what the full list gives at that moment, and after the run each still would be.
+pub any-run : (cs : List Call) (b : Book) → wellFormed (b .table) (b .small) ≡ true → GoodRun cs (record { book = b; list = held b })
 any-run cs b w = run-same cs (b .table) (b .small) (held b) (record { well-formed = w; best = λ q lawful. refl })
 
 -- From the empty book the full list begins empty.
-pub any-run-from-empty : (cs : List Call) (t : List ℕ) → tableFits t ≡ true → Good (run cs (record { book = record { table = emptyTable t; small = emptySmall }; list = [] }))
+pub any-run-from-empty : (cs : List Call) (t : List ℕ) → tableFits t ≡ true → GoodRun cs (record { book = record { table = emptyTable t; small = emptySmall }; list = [] })
 any-run-from-empty cs t e = run-same cs (emptyTable t) emptySmall [] (empty-same t e)

@@ -18,8 +18,8 @@ use Rattle.recording.specs.declared.Reply.the-variants as say
 use Rattle.recording.specs.RecordSteps.{outcomeIs}
 use Rattle.index.specs.declared.Counted.{Counted}
 use Rattle.index.specs.declared.Ended.{Ended}
-use Rattle.index.specs.Calls.{Left, Saved, cleared, counted, saved, loaded}
-use Rattle.index.specs.CallLaws.{leftOf}
+use Rattle.index.specs.Calls.{Left, Saved, cleared, countAnswer, countSays, saved, loaded}
+use Rattle.index.specs.CallLaws.{leftOf, count-is}
 
 -- the answer, the table and the small record
 same-left : (u w : List ℕ) (a b : Ended) (x : Left) → leftOf u a ≡ x → leftOf w b ≡ x → (u ≡ w) × (a ≡ b)
@@ -39,8 +39,8 @@ load-settled image t u w s a b = same-left u w a b (loaded image t s)
 pub save-settled : (t out u w : List ℕ) (s : Small) (a b : ℕ) → record { refusal = a; buffer = u } ≡ saved t s out → record { refusal = b; buffer = w } ≡ saved t s out → (a ≡ b) × (u ≡ w)
 save-settled t out u w s a b e f = let g = e ∙ sym f in (ap (λ (y : Saved). y .refusal) g, ap (λ (y : Saved). y .buffer) g)
 
-pub count-settled : (t : List ℕ) (s : Small) (a b : Counted) → a ≡ counted t s → b ≡ counted t s → a ≡ b
-count-settled t s a b e f = e ∙ sym f
+pub count-settled : (t : List ℕ) (s : Small) (a b : Counted) → countSays a ≡ countAnswer t s → countSays b ≡ countAnswer t s → a ≡ b
+count-settled t s a b e f = count-is t s a e ∙ sym (count-is t s b f)
 
 pub ask-settled : (t : List ℕ) (s : Small) (q : Box) (a b : Asked) → a ≡ asked t s q → b ≡ asked t s q → a ≡ b
 ask-settled t s q a b e f = e ∙ sym f

@@ -1,5 +1,5 @@
 -- Words laid over each other, eight at a time: the greatest of each kind is 0 only if all are.
--- Nothing here has to be believed: it is how the code tests that words are 0.
+-- It is how the code tests that words are 0: no promise of the book's calls speaks of it.
 use Prim.Native.Nat.{ℕ, suc, _+_, _≤_, _<_, max}
 use mathlib.Core.Bool.{Bool, true, false, _&&_, and-true, and-assoc}
 use mathlib.Core.List.{List, [], _∷_, _++_}
@@ -11,7 +11,7 @@ use lib.ListN.{length, getD, take, drop}
 use lib.Seq.{take-add, drop-drop}
 use Rattle.ground.specs.Tests.{both, joint, same-test}
 use Rattle.pages.specs.Facts.{InTable}
-use Rattle.pages.specs.Layout.{pageEntries, entryStart, entryIn, wordsOfEntry}
+use Rattle.pages.specs.Layout.{pageEntries, entryStart, entryIn, afterGust}
 use Rattle.pages.specs.LayoutLaws.{spread, spread-take}
 use Rattle.pages.specs.WordLaws.{zeroes, rest-zero}
 use Rattle.pages.specs.Words.{every, allZero}
@@ -19,6 +19,27 @@ use Rattle.pages.specs.declared.words.Laid.{Laid}
 
 abbrev pub wordsLaid : Laid → List ℕ
 wordsLaid x = x .w0 ∷ x .w1 ∷ x .w2 ∷ x .w3 ∷ x .w4 ∷ x .w5 ∷ x .w6 ∷ x .w7 ∷ []
+
+abbrev pub nothingLaid : Laid
+nothingLaid = record { w0 = 0; w1 = 0; w2 = 0; w3 = 0; w4 = 0; w5 = 0; w6 = 0; w7 = 0 }
+
+-- The eight words from a place on laid over what was laid there before: the greater of each two stays.
+unfoldable pub laidOver : Laid → List ℕ → ℕ → Laid
+laidOver x t k =
+    record {
+      w0 = max (x .w0) (getD t k 0);
+      w1 = max (x .w1) (getD t (k + 1) 0);
+      w2 = max (x .w2) (getD t (k + 2) 0);
+      w3 = max (x .w3) (getD t (k + 3) 0);
+      w4 = max (x .w4) (getD t (k + 4) 0);
+      w5 = max (x .w5) (getD t (k + 5) 0);
+      w6 = max (x .w6) (getD t (k + 6) 0);
+      w7 = max (x .w7) (getD t (k + 7) 0);
+    }
+
+-- What stands in entry i of page p after its gust: fourteen words, in two rows of eight that share two.
+abbrev pub restOver : Laid → List ℕ → ℕ → ℕ → Laid
+restOver x t p i = laidOver (laidOver x t (entryStart p i + 7)) t (entryStart p i + 13)
 
 -- the greater of two words is 0 only if both are; so it is for lists of words
 laid : List ℕ → List ℕ → List ℕ
@@ -60,14 +81,17 @@ eight t k h =
     (λ i. getD t k 0 ∷ getD t (a i) 0 ∷ getD t (b i) 0 ∷ getD t (c i) 0 ∷ getD t (d i) 0 ∷ getD t (e i) 0 ∷ getD t (f i) 0 ∷ getD t (g i) 0 ∷ [])
     ∙ spread-take 8 k t h
 
-pub laid-over :
-    (x r : Laid) (t : List ℕ) (k : ℕ) → k + 8 ≤ length t → r .w0 ≡ max (x .w0) (getD t k 0) → r .w1 ≡ max (x .w1) (getD t (k + 1) 0) → r .w2 ≡ max (x .w2) (getD t (k + 2) 0)
+pub laid-so :
+    (x r : Laid) (t : List ℕ) (k : ℕ) → r .w0 ≡ max (x .w0) (getD t k 0) → r .w1 ≡ max (x .w1) (getD t (k + 1) 0) → r .w2 ≡ max (x .w2) (getD t (k + 2) 0)
     → r .w3 ≡ max (x .w3) (getD t (k + 3) 0) → r .w4 ≡ max (x .w4) (getD t (k + 4) 0) → r .w5 ≡ max (x .w5) (getD t (k + 5) 0) → r .w6 ≡ max (x .w6) (getD t (k + 6) 0) → r .w7 ≡ max (x .w7) (getD t (k + 7) 0)
-    → allZero (wordsLaid r) ≡ (allZero (wordsLaid x) && zeroes t k 8)
-unfolding laid zeroes
-laid-over x r t k h a b c d e f g j =
-    ap allZero (λ i. a i ∷ b i ∷ c i ∷ d i ∷ e i ∷ f i ∷ g i ∷ j i ∷ [])
-    ∙ laid-zero (wordsLaid x) (getD t k 0 ∷ getD t (k + 1) 0 ∷ getD t (k + 2) 0 ∷ getD t (k + 3) 0 ∷ getD t (k + 4) 0 ∷ getD t (k + 5) 0 ∷ getD t (k + 6) 0 ∷ getD t (k + 7) 0 ∷ []) refl
+    → r ≡ laidOver x t k
+unfolding laidOver
+laid-so x r t k a b c d e f g j = λ i. record { w0 = a i; w1 = b i; w2 = c i; w3 = d i; w4 = e i; w5 = f i; w6 = g i; w7 = j i }
+
+laid-over : (x : Laid) (t : List ℕ) (k : ℕ) → k + 8 ≤ length t → allZero (wordsLaid (laidOver x t k)) ≡ (allZero (wordsLaid x) && zeroes t k 8)
+unfolding laidOver laid zeroes
+laid-over x t k h =
+    laid-zero (wordsLaid x) (getD t k 0 ∷ getD t (k + 1) 0 ∷ getD t (k + 2) 0 ∷ getD t (k + 3) 0 ∷ getD t (k + 4) 0 ∷ getD t (k + 5) 0 ∷ getD t (k + 6) 0 ∷ getD t (k + 7) 0 ∷ []) refl
     ∙ ap (λ l. allZero (wordsLaid x) && allZero l) (eight t k h)
 
 -- fourteen words are 0 exactly if both rows are
@@ -92,18 +116,30 @@ two-rows t k =
     ∙ shared (zeroes t k 6) (zeroes t (k + 6) 2) (zeroes t (k + 6 + 2) 6)
     ∙ sym (zeroes-add t k 6 8 ∙ ap (λ b. zeroes t k 6 && b) (zeroes-add t (k + 6) 2 6))
 
-pub rest-laid :
+rows-zero :
     (t : List ℕ) (p i s : ℕ) (x y z : Bool) → InTable t p → i < pageEntries → s ≡ entryStart p i → y ≡ (x && zeroes t (s + 7) 8) → z ≡ (y && zeroes t (s + 13) 8)
-    → z ≡ (x && allZero (drop 7 (wordsOfEntry (entryIn t p i))))
-rest-laid t p i s x y z h k e f g =
+    → z ≡ (x && allZero (afterGust (entryIn t p i)))
+rows-zero t p i s x y z h k e f g =
     let second : s + 13 ≡ s + 7 + 6 = omega arith in
     g
     ∙ ap₂ (λ (b : Bool) (m : ℕ). b && zeroes t m 8) f second
     ∙ and-assoc x (zeroes t (s + 7) 8) (zeroes t (s + 7 + 6) 8)
     ∙ ap (λ b. x && b) (two-rows t (s + 7) ∙ rest-zero t p i s 14 h k e refl)
 
+pub rest-so : (x y r : Laid) (t : List ℕ) (p i s : ℕ) → s ≡ entryStart p i → y ≡ laidOver x t (s + 7) → r ≡ laidOver y t (s + 13) → r ≡ restOver x t p i
+rest-so x y r t p i s e f g = g ∙ ap (λ z. laidOver z t (s + 13)) f ∙ ap (λ n. laidOver (laidOver x t (n + 7)) t (n + 13)) e
+
 pub rest-inside : (t : List ℕ) (p i s : ℕ) → InTable t p → i < pageEntries → s ≡ entryStart p i → s + 13 + 8 ≤ length t
 rest-inside t p i s h k e = omega (arith, h .inside)
+
+-- all that was laid is 0 exactly if it was before, and what stands after the gust is too
+pub rest-laid : (x r : Laid) (t : List ℕ) (p i : ℕ) → InTable t p → i < pageEntries → r ≡ restOver x t p i → allZero (wordsLaid r) ≡ (allZero (wordsLaid x) && allZero (afterGust (entryIn t p i)))
+rest-laid x r t p i h k e =
+    let s = entryStart p i in
+    let y = laidOver x t (s + 7) in
+    let inside = rest-inside t p i s h k refl in
+    ap (λ z. allZero (wordsLaid z)) e
+    ∙ rows-zero t p i s (allZero (wordsLaid x)) (allZero (wordsLaid y)) (allZero (wordsLaid (laidOver y t (s + 13)))) h k refl (laid-over x t (s + 7) (omega arith)) (laid-over y t (s + 13) inside)
 
 -- the test of all eight, in two halves
 four : (a b c d r : Bool) → (a && (b && (c && d)) && r) ≡ (a && (b && (c && (d && r))))
@@ -117,6 +153,6 @@ laid-test x =
     four (eqb (x .w0) 0) (eqb (x .w1) 0) (eqb (x .w2) 0) (eqb (x .w3) 0) (eqb (x .w4) 0 && (eqb (x .w5) 0 && (eqb (x .w6) 0 && eqb (x .w7) 0)))
     ∙ ap (λ b. eqb (x .w0) 0 && (eqb (x .w1) 0 && (eqb (x .w2) 0 && (eqb (x .w3) 0 && (eqb (x .w4) 0 && (eqb (x .w5) 0 && (eqb (x .w6) 0 && b))))))) (sym (and-true (eqb (x .w7) 0)))
 
-pub nothing-laid : (x : Laid) → x ≡ record { w0 = 0; w1 = 0; w2 = 0; w3 = 0; w4 = 0; w5 = 0; w6 = 0; w7 = 0 } → allZero (wordsLaid x) ≡ true
+pub nothing-laid : (x : Laid) → x ≡ nothingLaid → allZero (wordsLaid x) ≡ true
 unfolding every
 nothing-laid x e = ap (λ y. allZero (wordsLaid y)) e

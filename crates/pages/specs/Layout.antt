@@ -88,6 +88,10 @@ wordsOfBox b = wordsOfRange (b .east) ++ (wordsOfRange (b .north) ++ wordsOfRang
 unfoldable pub wordsOfEntry : Entry → List ℕ
 wordsOfEntry e = wordsOfBox (e .place) ++ (e .gust ∷ e .weakest ∷ e .child ∷ (wordsOfBox (e .strongest) ++ wordsOfBox (e .union)))
 
+-- What stands in an entry after its gust: in a leaf entry all of it is 0.
+abbrev pub afterGust : Entry → List ℕ
+afterGust e = drop 7 (wordsOfEntry e)
+
 unfoldable pub wordsOfEntries : List Entry → List ℕ
 wordsOfEntries [] = []
 wordsOfEntries (e ∷ es) = wordsOfEntry e ++ wordsOfEntries es

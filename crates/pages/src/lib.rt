@@ -1,4 +1,5 @@
-// The pages of the gust book: the only place that knows where a word lies.
+// The pages of the gust book: where each word of a page lies is known here.
+// Two crates go by the order of a box's six words beside it: `sieve` tests them where they lie, `split` works on nine boxes as words.
 // A book is a lent table of 16-bit words, a page after another, and a small record.
 mod free;
 mod reading;
@@ -60,7 +61,7 @@ pub struct Entry {
 pub struct Page {
     pub level: u16,
     pub count: u16,
-    pub entries: [Entry; 8],
+    pub entries: [Entry; Page::ENTRIES],
 }
 
 // The lowest page whose level is 0, if there is one.
@@ -73,14 +74,28 @@ impl Page {
     pub const WORDS: usize = 170;
 
     pub const ENTRIES: usize = 8;
+    // The same as a count, which is a word.
+    pub const MOST_COUNT: u16 = Page::ENTRIES as u16;
 
     pub const MOST: usize = 4096;
 
-    pub const IMAGE_BYTES: usize = 340;
+    pub const IMAGE_BYTES: usize = 2 * Page::WORDS;
 }
 
 impl Entry {
     pub const WORDS: usize = 21;
+
+    pub const BOX_WORDS: usize = 6;
+    // Where its parts begin, after the box.
+    pub const GUST: usize = Entry::BOX_WORDS;
+
+    pub const WEAKEST: usize = 7;
+
+    pub const CHILD: usize = 8;
+
+    pub const STRONGEST: usize = 9;
+
+    pub const UNION: usize = 15;
 }
 
 impl Small {

@@ -87,35 +87,35 @@ pub fn entry_gust(t: &[u16], p: usize, i: usize) -> u16
     requires { ⌜ InTable (now t) p × (i < pageEntries) ⌝ }
     ensures { λ r. ⌜ r ≡ entryIn (now (t .entry)) p i .gust ⌝ }
 {
-    entry_word(t, p, i, 6)
+    entry_word(t, p, i, Entry::GUST)
 }
 
 pub fn entry_weakest(t: &[u16], p: usize, i: usize) -> u16
     requires { ⌜ InTable (now t) p × (i < pageEntries) ⌝ }
     ensures { λ r. ⌜ r ≡ entryIn (now (t .entry)) p i .weakest ⌝ }
 {
-    entry_word(t, p, i, 7)
+    entry_word(t, p, i, Entry::WEAKEST)
 }
 
 pub fn entry_child(t: &[u16], p: usize, i: usize) -> u16
     requires { ⌜ InTable (now t) p × (i < pageEntries) ⌝ }
     ensures { λ r. ⌜ r ≡ entryIn (now (t .entry)) p i .child ⌝ }
 {
-    entry_word(t, p, i, 8)
+    entry_word(t, p, i, Entry::CHILD)
 }
 
 pub fn entry_strongest(t: &[u16], p: usize, i: usize) -> Box
     requires { ⌜ InTable (now t) p × (i < pageEntries) ⌝ }
     ensures { λ r. ⌜ r ≡ entryIn (now (t .entry)) p i .strongest ⌝ }
 {
-    entry_box(t, p, i, 9)
+    entry_box(t, p, i, Entry::STRONGEST)
 }
 
 pub fn entry_union(t: &[u16], p: usize, i: usize) -> Box
     requires { ⌜ InTable (now t) p × (i < pageEntries) ⌝ }
     ensures { λ r. ⌜ r ≡ entryIn (now (t .entry)) p i .union ⌝ }
 {
-    entry_box(t, p, i, 15)
+    entry_box(t, p, i, Entry::UNION)
 }
 
 pub fn read_entry(t: &[u16], p: usize, i: usize) -> Entry

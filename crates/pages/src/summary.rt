@@ -32,14 +32,14 @@ fn record_box(t: &[u16], p: usize, i: usize, level: u16) -> Box
     requires { ⌜ InTable (now t) p × (i < pageEntries) ⌝ }
     ensures { λ r. ⌜ r ≡ recordBox level (entryIn (now (t .entry)) p i) ⌝ }
 {
-    entry_box(t, p, i, by_level(level, 0, 9))
+    entry_box(t, p, i, by_level(level, 0, Entry::STRONGEST))
 }
 
 fn union_box(t: &[u16], p: usize, i: usize, level: u16) -> Box
     requires { ⌜ InTable (now t) p × (i < pageEntries) ⌝ }
     ensures { λ r. ⌜ r ≡ unionBox level (entryIn (now (t .entry)) p i) ⌝ }
 {
-    entry_box(t, p, i, by_level(level, 0, 15))
+    entry_box(t, p, i, by_level(level, 0, Entry::UNION))
 }
 
 fn union_size(t: &[u16], p: usize, i: usize, level: u16) -> u64
@@ -53,7 +53,7 @@ fn weak_gust(t: &[u16], p: usize, i: usize, level: u16) -> u16
     requires { ⌜ InTable (now t) p × (i < pageEntries) ⌝ }
     ensures { λ r. ⌜ r ≡ weakGust level (entryIn (now (t .entry)) p i) ⌝ }
 {
-    entry_word(t, p, i, by_level(level, 6, 7))
+    entry_word(t, p, i, by_level(level, Entry::GUST, Entry::WEAKEST))
 }
 
 fn wide_gust(t: &[u16], p: usize, i: usize) -> u64

@@ -14,7 +14,7 @@ ghost use Rattle.pages.specs.Layout.{wordsOfRange, wordsOfBox, wordsOfEn
 ghost use Rattle.pages.specs.Facts.{InTable};
 ghost use Rattle.pages.specs.Words.{allZero, sameWords};
 ghost use Rattle.pages.specs.WordLaws.{zeroes};
-ghost use Rattle.pages.specs.Laid.{wordsLaid};
+ghost use Rattle.pages.specs.Laid.{wordsLaid, nothingLaid, laidOver, restOver};
 
 // No early exit: a test that is carried through runs over many words at a time.
 fn words_are_zero(t: &[u16], from: usize, to: usize) -> bool
@@ -67,8 +67,12 @@ fn greater_word(a: u16, b: u16) -> u16
 }
 
 impl Laid {
+    const WORDS: usize = 8;
+    // Where an entry's last row begins.
+    const LAST_ROW: usize = Entry::WORDS - Laid::WORDS;
+
     pub fn nothing() -> Laid
-        ensures { λ r. ⌜ allZero (wordsLaid r) ≡ true ⌝ }
+        ensures { λ r. ⌜ r ≡ nothingLaid ⌝ }
     {
         Laid {
             w0: 0,
@@ -85,7 +89,7 @@ impl Laid {
     // The eight words from a place on.
     fn over(self, t: &[u16], k: usize) -> Laid
         requires { ⌜ k + 8 ≤ length (now t) ⌝ }
-        ensures { λ r. ⌜ allZero (wordsLaid r) ≡ (allZero (wordsLaid self) && zeroes (now (t .entry)) k 8) ⌝ }
+        ensures { λ r. ⌜ r ≡ laidOver self (now (t .entry)) k ⌝ }
     {
         Laid {
             w0: greater_word(self.w0, t[k]),
@@ -102,10 +106,11 @@ impl Laid {
     // What stands in a leaf entry after its gust: fourteen words, in two rows of eight that share two.
     pub fn over_rest(self, t: &[u16], p: usize, i: usize) -> Laid
         requires { ⌜ InTable (now t) p × (i < pageEntries) ⌝ }
-        ensures { λ r. ⌜ allZero (wordsLaid r) ≡ (allZero (wordsLaid self) && allZero (drop 7 (wordsOfEntry (entryIn (now (t .entry)) p i)))) ⌝ }
+        ensures { λ r. ⌜ r ≡ restOver self (now (t .entry)) p i ⌝ }
     {
         let start = entry_start(p, i);
-        self.over(t, start + 7).over(t, start + 13)
+        self.over(t, start + Entry::WEAKEST)
+            .over(t, start + Laid::LAST_ROW)
     }
 
     pub fn is_zero(self) -> bool

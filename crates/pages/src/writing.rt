@@ -25,12 +25,12 @@ fn write_entry(s: &mut [u16], e: Entry)
     requires { ⌜ length (now s) ≡ entryWords ⌝ }
     ensures { λ r. ⌜ now (s .exit) ≡ wordsOfEntry e ⌝ }
 {
-    s[6] = e.gust;
-    s[7] = e.weakest;
-    s[8] = e.child;
-    write_box(&mut s[0..6], e.place);
-    write_box(&mut s[9..15], e.strongest);
-    write_box(&mut s[15..Entry::WORDS], e.union);
+    s[Entry::GUST] = e.gust;
+    s[Entry::WEAKEST] = e.weakest;
+    s[Entry::CHILD] = e.child;
+    write_box(&mut s[0..Entry::BOX_WORDS], e.place);
+    write_box(&mut s[Entry::STRONGEST..Entry::UNION], e.strongest);
+    write_box(&mut s[Entry::UNION..Entry::WORDS], e.union);
 }
 
 fn write_entries(s: &mut [u16], x: Page)

@@ -4,22 +4,21 @@ use mathlib.Core.Bool.{true}
 use mathlib.Core.List.{List}
 use mathlib.Core.Path.{_≡_, refl, sym, ap, _∙_, subst}
 use native.Mathlib.Omega.{arith}
-use lib.ListN.{length}
 use Rattle.ground.specs.declared.boxes.Box.{Box}
 use Rattle.pages.specs.Facts.{fitting}
 use Rattle.pages.specs.FreeLaws.{free-most}
 use Rattle.pages.specs.Layout.{tableFits, pagesOf, tableOf}
 use Rattle.pages.specs.LayoutLaws.{table-pages, pages-length}
 use Rattle.pages.specs.declared.Small.{Small}
-use Rattle.recording.specs.declared.Answered as code-answered
+use Rattle.recording.specs.declared.sound.Answered as code-answered
 use Rattle.recording.specs.declared.Called as code-called
 use Rattle.recording.specs.declared.Reply as code-reply
 use Rattle.recording.specs.declared.Reply.the-variants as say
-use Rattle.recording.specs.declared.Sought as code-sought
+use Rattle.recording.specs.declared.scan.Sought as code-sought
 use Rattle.rules.specs.Book.{before}
+use Rattle.rules.specs.CameLaws.{Before}
 use Rattle.rules.specs.FromRoot.{root-level}
-use Rattle.rules.specs.FromWellFormed.{book, all-formed}
-use Rattle.recording.specs.LookSteps.{Within}
+use Rattle.rules.specs.FromWellFormed.{book}
 use Rattle.rules.specs.Record.{Reply, Reply.Refused, Reply.Answered, Called, refusal, answered, refused, recordInto}
 use Rattle.rules.specs.RecordLaws.{Accepted, not-refused, refused-law, answered-law, conditions-of, few}
 use Rattle.rules.specs.Recording.{recorded, fromRoot}
@@ -27,9 +26,7 @@ use Rattle.recording.specs.RecordSteps.{outcomeIs, RootLevelFits, SmallI
 use Rattle.recording.specs.RootSteps.{LevelFits}
 use Rattle.rules.specs.Scan.{handedIn}
 use Rattle.recording.specs.TableSteps.{still-fits}
-use Rattle.recording.specs.TidyLaws.{Tidied}
 use Rattle.recording.specs.Views.{mostStruck, soughtOf}
-use Rattle.recording.specs.WithinLaws.{legal-within}
 
 -- Document 01's numbers and answers, by the code's cases.
 abbrev pub replyOf : code-reply.Reply → Reply
@@ -51,9 +48,9 @@ root-level-fits t s b v a =
     let h = k .height in
     let r = a .room in
     let e : s .height - 1 ≡ k .levels = omega arith in
-    let l = root-level (k .levels) v ps (s .root) (handedIn b) (before ps s k b v (a .lawful) (a .passes) (a .unspent) (a .room)) (omega arith) (length ps) in
+    let l = root-level (k .levels) v ps (s .root) (handedIn b) (before ps s k b v (a .lawful) (a .passes) (a .unspent) (a .room)) in
     let few : suc (k .levels) < 65_535 = omega (arith, free-most ps, pages-length t, fitting t (a .fits) .most) in
-    subst (λ (n : ℕ). LevelFits (fromRoot (length ps) n v ps (s .root) (handedIn b) .pages) (s .root)) (sym e) (omega (arith, l, few))
+    subst (λ (n : ℕ). LevelFits (fromRoot n v ps (s .root) (handedIn b) .pages) (s .root)) (sym e) (omega (arith, l, few))
 
 same-small : (r x : Small) (a k : ℕ) → k ≤ mostStruck → x .struck ≡ a + k → SmallIs r x a k → r ≡ x
 same-small r x a k l e h =
@@ -90,8 +87,9 @@ module _ (t : List ℕ) (s : Small) (b : Box) (v n : ℕ) (e : n ≡ refusal t s
   call-answered u r z h = h ∙ sym (answered-law t s b v (sym e ∙ z))
 
 -- an accepted record may walk from the root
-pub may-walk-from-root : (t : List ℕ) (s : Small) (b : Box) (v : ℕ) (x : code-sought.Sought) → Accepted t s b v → soughtOf x ≡ handedIn b → (tableFits t ≡ true) × Tidied (pagesOf t) × Within (x .place) (x .place)
+pub may-walk-from-root : (t : List ℕ) (s : Small) (b : Box) (v : ℕ) (x : code-sought.Sought) → Accepted t s b v → soughtOf x ≡ handedIn b → (tableFits t ≡ true) × Before (s .height - 1) v (pagesOf t) (s .root) (soughtOf x)
 may-walk-from-root t s b v x a e =
-    let own : x .place ≡ b = ap (λ y. y .box) e in
-    let formed = all-formed (pagesOf t) s (conditions-of t s (a .sound)) in
-    (a .fits, λ p. record { is = formed p .0; most = formed p .1 }, subst (λ (y : Box). Within y y) (sym own) (legal-within b (a .lawful)))
+    let ps = pagesOf t in
+    let k = book ps s (conditions-of t s (a .sound)) in
+    let l : s .height - 1 ≡ k .levels = let h = k .height in omega arith in
+    (a .fits, subst (Before (s .height - 1) v ps (s .root)) (sym e) (subst (λ (n : ℕ). Before n v ps (s .root) (handedIn b)) (sym l) (before ps s k b v (a .lawful) (a .passes) (a .unspent) (a .room))))

@@ -8,7 +8,6 @@ pub mod ChooseSteps
 pub mod SettleSteps
 pub mod LookSteps
 pub mod WithinLaws
-pub mod TidyLaws
 pub mod LyingSteps
 pub mod LowSteps
 pub mod WalkSteps

@@ -16,9 +16,8 @@ use Rattle.pages.specs.declared.Entry.{Entry}
 use Rattle.pages.specs.declared.FreePage.{FreePage}
 use Rattle.pages.specs.declared.FreePage.the-variants.{At, NoPage}
 use Rattle.pages.specs.declared.Page.{Page}
-use Rattle.rules.specs.Recording.{Became, Became.stands, Became.split, Became.emptied, Became.again, Walked, Next, intoPage, splitPage, settleBy, settle, exactAt, comeBackBy, comeBack, append, goDown, unlessCovered, goOn, atPage, walkDown}
+use Rattle.rules.specs.Recording.{Became, Became.stands, Became.split, Walked, Walk, intoPage, splitPage, settleBy, settle, exactAt, comeBackBy, comeBack, append, goDown, unlessCovered, goOn, walkDown}
 use Rattle.rules.specs.Scan.{Sought, scan}
-use Rattle.rules.specs.Strike.{rest, strike}
 use Rattle.split.specs.Split.{TwoLists, halves, pageFrom, pagesFrom}
 use Rattle.split.specs.declared.filling.Halves.{Halves}
 use Rattle.wellformed.specs.WellFormed.{page}
@@ -76,12 +75,6 @@ first-level h level xs e = ap (λ (g : Halves). g .first .level) e
 not-split : (q : ℕ) → stands ≡ split q → ⊥
 not-split q e = let z : _≡_ {A = ℕ} 0 1 = cc in omega arith
 
-not-emptied : (q : ℕ) → emptied ≡ split q → ⊥
-not-emptied q e = let z : _≡_ {A = ℕ} 0 1 = cc in omega arith
-
-not-again : (q : ℕ) → again ≡ split q → ⊥
-not-again q e = let z : _≡_ {A = ℕ} 0 1 = cc in omega arith
-
 same-split : (m q : ℕ) → split m ≡ split q → m ≡ q
 same-split m q e = cc
 
@@ -106,32 +99,23 @@ settle-low ps p level es s k = by-test (leb (length es) pageEntries)
     by-test true = λ q d. absurd (not-split q d)
     by-test false = let qs = set ps p (pageFrom level (halves es .first)) in by-free qs (halves es .second) (lowestFree qs) refl
 
-come-back-low : (p i k : ℕ) (w : Walked) → LowWalk (comeBack p i k w)
+come-back-low : (p i : ℕ) (w : Walked) → LowWalk (comeBack p i w)
 unfolding LowWalk comeBack
-come-back-low p i k w = by-case (w .became)
+come-back-low p i w = by-case (w .became)
   where
-    by-case : (o : Became) → LowWalk (comeBackBy o (w .pages) p (page (w .pages) p .level) (inUse (page (w .pages) p)) i (w .sought) (k + w .struck))
-    by-case stands = settle-low (w .pages) p (page (w .pages) p .level) (exactAt (w .pages) (inUse (page (w .pages) p)) i) (w .sought) (k + w .struck)
-    by-case (split m) = settle-low (w .pages) p (page (w .pages) p .level) (exactAt (w .pages) (inUse (page (w .pages) p)) i ++ (summaryOf m (page (w .pages) m) ∷ [])) (w .sought) (k + w .struck)
-    by-case emptied = λ q d. absurd (not-again q d)
-    by-case again = λ q d. absurd (not-again q d)
+    by-case : (o : Became) → LowWalk (comeBackBy o (w .pages) p (page (w .pages) p .level) (inUse (page (w .pages) p)) i (w .sought) (w .struck))
+    by-case stands = settle-low (w .pages) p (page (w .pages) p .level) (exactAt (w .pages) (inUse (page (w .pages) p)) i) (w .sought) (w .struck)
+    by-case (split m) = settle-low (w .pages) p (page (w .pages) p .level) (exactAt (w .pages) (inUse (page (w .pages) p)) i ++ (summaryOf m (page (w .pages) m) ∷ [])) (w .sought) (w .struck)
 
-at-page-low : (n v : ℕ) (next : Next) → ((ps : List Page) (p level : ℕ) (es : List Entry) (s : Sought) (k : ℕ) → LowWalk (next ps p level es s k)) → (ps : List Page) (p : ℕ) (s : Sought) → LowWalk (atPage n v next ps p s)
-unfolding LowWalk atPage goOn
-at-page-low n v next low ps p s =
-    let x = page ps p in
-    let t = strike n (s .box) v ps (inUse x) in
-    by-rest (t .pages) (x .level) (rest (s .box) v (inUse x)) (t .records)
+on-low : (n v : ℕ) (next : Walk) → ((ps : List Page) (p : ℕ) (s : Sought) (k : ℕ) → LowWalk (next ps p s k)) → (ps : List Page) (p : ℕ) (s : Sought) (k : ℕ) → LowWalk (goOn n v next ps p s k)
+unfolding LowWalk goOn
+on-low n v next low ps p s k = by-cover (scan n v (inUse (page ps p)) s .isCovered) (scan n v (inUse (page ps p)) s)
   where
-    by-cover : (b : Bool) (qs : List Page) (level : ℕ) (es : List Entry) (r : Sought) (k : ℕ) → LowWalk (unlessCovered b next qs p level es r k)
-    by-cover true qs level es r k = λ q d. absurd (not-split q d)
-    by-cover false qs level es r k = low qs p level es r k
+    by-cover : (b : Bool) (found : Sought) → LowWalk (unlessCovered b next ps p found k)
+    by-cover true found = λ q d. absurd (not-split q d)
+    by-cover false found = low ps p found k
 
-    by-rest : (qs : List Page) (level : ℕ) (es : List Entry) (k : ℕ) → LowWalk (goOn n v next qs p level es s k)
-    by-rest qs level [] k = λ q d. absurd (not-emptied q d)
-    by-rest qs level (e ∷ es) k = by-cover (scan n v (e ∷ es) s .isCovered) qs level (e ∷ es) (scan n v (e ∷ es) s) k
-
-pub walk-low : (n v : ℕ) (ps : List Page) (p : ℕ) (s : Sought) → Low (walkDown n v ps p s .became) (walkDown n v ps p s .pages)
+pub walk-low : (n v : ℕ) (ps : List Page) (p : ℕ) (s : Sought) (k : ℕ) → Low (walkDown n v ps p s k .became) (walkDown n v ps p s k .pages)
 unfolding LowWalk walkDown append goDown
-walk-low zero v ps p s = at-page-low zero v (append v) (λ qs r level es u k. settle-low qs r level _ u k) ps p s
-walk-low (suc n) v ps p s = at-page-low (suc n) v (goDown (walkDown n v)) (λ qs r level es u k. come-back-low r _ k _) ps p s
+walk-low zero v ps p s k = on-low zero v (append v) (λ qs r u m. settle-low qs r (page qs r .level) _ u m) ps p s k
+walk-low (suc n) v ps p s k = on-low (suc n) v (goDown n v (walkDown n v)) (λ qs r u m. come-back-low r _ _) ps p s k

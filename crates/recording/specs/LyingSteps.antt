@@ -6,7 +6,7 @@ use mathlib.Core.Logic.{⊎-elim}
 use mathlib.Core.Path.{_≡_, refl, sym, ap, ap₂, subst, _∙_}
 use native.Mathlib.Omega.{arith}
 use lib.Dec.{leb}
-use lib.ListN.{length, getD, set, List·getD-eq-default}
+use lib.ListN.{length, getD, set, length-set, List·getD-eq-default}
 use lib.Seq.{set-set, set-out, set-getD, getD-set-same}
 use Rattle.ground.specs.Tests.{below-or-not}
 use Rattle.pages.specs.Free.{lowestFree}
@@ -16,19 +16,21 @@ use Rattle.pages.specs.declared.Entry.{Entry}
 use Rattle.pages.specs.declared.Page.{Page}
 use Rattle.split.specs.Split.{halves, pageFrom}
 use Rattle.wellformed.specs.WellFormed.{page}
-use Rattle.recording.specs.declared.Became as code-became
-use Rattle.recording.specs.declared.Became.the-variants as case
-use Rattle.recording.specs.PageSteps.{Tidy, count-is, pushed, put-there}
+use Rattle.recording.specs.declared.settle.Became as code-became
+use Rattle.recording.specs.declared.settle.Became.the-variants as case
+use Rattle.recording.specs.PageSteps.{Tidy, TidyPage, tidy-from, count-is, pushed, put-there}
 use Rattle.rules.specs.Recording.{Became, Became.stands, settleBy, settle, splitPage, intoPage, exactAt}
 use Rattle.rules.specs.Scan.{handedIn}
-use Rattle.recording.specs.SettleSteps.{Settled, settledBy, settled, Settles, settled-few, own-tidy, one-more-tidy, came-standing, came-split, came-again, cameBack}
+use Rattle.recording.specs.SettleSteps.{Settled, settledBy, settled, Settles, settled-few, own-tidy, one-more-tidy, came-standing, came-split, cameBack}
 use Rattle.recording.specs.TableSteps.{UsedAt}
-use Rattle.recording.specs.TidyLaws.{TidyPage, exact-length, tidy-from}
 use Rattle.recording.specs.LookSteps.{all-stand, nothing-struck}
-use Rattle.recording.specs.StrikeSteps.{strikePage}
 use Rattle.recording.specs.Views.{Leaves, Frees, becameOf}
-use Rattle.rules.specs.Strike.{struckOf, rest}
+use Rattle.rules.specs.Strike.{struckOf, rest, strikePage}
 use Rattle.ground.specs.declared.boxes.Box.{Box}
+
+exact-length : (ps : List Page) (es : List Entry) (i : ℕ) → length (exactAt ps es i) ≡ length es
+unfolding exactAt
+exact-length ps es i = let c = getD es i zeroEntry .child in length-set es i (summaryOf c (page ps c))
 
 -- page p with its entry at place i made exact, and page p settled with one entry more
 abbrev pub exactPage : List Page → ℕ → ℕ → Page
@@ -105,9 +107,6 @@ module _ (t : List ℕ) (p : ℕ) (h : TidyPage (page (pagesOf t) p)) where
       let y = exactPage (pagesOf t) p i in
       let d = exact-tidy i in
       came-standing t u p i o y case.Stands e d (settled-few t u p (y .level) y (inUse y) (own-tidy y (page (pagesOf t) p .level) (exactAt (pagesOf t) (inUse (page (pagesOf t) p)) i) d) g)
-
-  pub came-again-here : (u : List ℕ) (i : ℕ) (o : code-became.Became) → o ≡ case.Again → Leaves t u (set (pagesOf t) p (exactPage (pagesOf t) p i)) → Settles t u case.Again (cameBack (becameOf o) (pagesOf t) p i)
-  came-again-here u i o e g = came-again t u p i o (exactPage (pagesOf t) p i) e (exact-tidy i) g
 
 -- the page that was made exact, in its place or past the end
 pub exact-there : (ps : List Page) (p i : ℕ) → page (set ps p (exactPage ps p i)) p ≡ exactPage ps p i

@@ -1,6 +1,6 @@
 -- Recording on a sound book, in the code's order.
 use Prim.Native.Nat.{ℕ, _+_, _-_, _≤_, _<_, min}
-use mathlib.Core.Bool.{Bool, true, cond}
+use mathlib.Core.Bool.{true, cond}
 use mathlib.Core.List.{List}
 use mathlib.Core.Path.{_≡_, sym, ap, ap₂, subst, _∙_}
 use lib.ListN.{length}
@@ -9,10 +9,10 @@ use Rattle.pages.specs.Layout.{mostPages, tableFits, pagesOf}
 use Rattle.pages.specs.declared.Page.{Page}
 use Rattle.pages.specs.declared.Small.{Small}
 use Rattle.wellformed.specs.WellFormed.{page, mostAccepted}
-use Rattle.recording.specs.declared.Walked as code-walked
+use Rattle.recording.specs.declared.walk.Walked as code-walked
 use Rattle.recording.specs.declared.Outcome as code-outcome
 use Rattle.recording.specs.declared.Outcome.the-variants as case
-use Rattle.recording.specs.declared.Answered as code-answered
+use Rattle.recording.specs.declared.sound.Answered as code-answered
 use Rattle.rules.specs.Scan.{Sought, handedIn}
 use Rattle.rules.specs.Recording.{Walked, fromRoot, putRootRight, collapse, Outcome, Outcome.Kept, Outcome.Cut, Outcome.Covered, outcomeOf, Recorded, recorded}
 use Rattle.recording.specs.RootSteps.{Roots, RootsIf, LevelFits}
@@ -35,7 +35,7 @@ pub record SoundSmall (t : List ℕ) (s : Small) : Type 0 where
 
 -- the root after the walk has a level below the greatest word
 abbrev pub RootLevelFits : List Page → Small → Box → ℕ → Type 0
-RootLevelFits ps s b v = LevelFits (fromRoot (length ps) (s .height - 1) v ps (s .root) (handedIn b) .pages) (s .root)
+RootLevelFits ps s b v = LevelFits (fromRoot (s .height - 1) v ps (s .root) (handedIn b) .pages) (s .root)
 
 -- the small record, but that the struck count stops
 pub record SmallIs (r x : Small) (struck more : ℕ) : Type 0 where
@@ -62,21 +62,20 @@ pub record SmallMade (after : List ℕ) (s : Small) (w : code-walked.Walked) (ro
   pub struck-is : r .struck ≡ s .struck + w .struck
   pub covered-is : r .covered ≡ s .covered + cond (w .sought .covered) 1 0
 
-pub all-recorded : (t u w z : List ℕ) (s small : Small) (b : Box) (v q r : ℕ) (walked : code-walked.Walked) (o : code-outcome.Outcome) → Walks t u walked (fromRoot (length (pagesOf t)) (s .height - 1) v (pagesOf t) (s .root) (handedIn b))
-    → RootsIf (LevelFits (pagesOf u) (s .root)) u w q (putRootRight (becameOf (walked .became)) (pagesOf u) (s .root) v (soughtOf (walked .sought)))
+pub all-recorded : (t u w z : List ℕ) (s small : Small) (b : Box) (v q r : ℕ) (walked : code-walked.Walked) (o : code-outcome.Outcome) → Walks t u walked (fromRoot (s .height - 1) v (pagesOf t) (s .root) (handedIn b))
+    → RootsIf (LevelFits (pagesOf u) (s .root)) u w q (putRootRight (becameOf (walked .became)) (pagesOf u) (s .root))
     → Roots w z r (collapse (s .height) (pagesOf w) q) → outcomeIs o ≡ outcomeOf (soughtOf (walked .sought)) → SmallMade z s walked r small
     → Records t z s b v (record { outcome = o; struck = walked .struck; small = small })
 unfolding recorded
 all-recorded t u w z s small b v q r walked o h g k e m =
-    let x = fromRoot (length (pagesOf t)) (s .height - 1) v (pagesOf t) (s .root) (handedIn b) in
-    let y = putRootRight (x .became) (x .pages) (s .root) v (x .sought) in
+    let x = fromRoot (s .height - 1) v (pagesOf t) (s .root) (handedIn b) in
+    let y = putRootRight (x .became) (x .pages) (s .root) in
     let a = collapse (s .height) (y .pages) (y .root) in
     record {
       same-length = k .same-length ∙ g .same-length ∙ h .same-length;
       records = λ fits.
           let f = g .roots (subst (λ ps. LevelFits ps (s .root)) (sym (h .pages-are)) fits) in
-          let i : putRootRight (becameOf (walked .became)) (pagesOf u) (s .root) v (soughtOf (walked .sought)) ≡ y =
-          ap (λ c. putRootRight c (pagesOf u) (s .root) v (soughtOf (walked .sought))) (h .became-is) ∙ ap₂ (λ ps c. putRootRight (x .became) ps (s .root) v c) (h .pages-are) (h .sought-is) in
+          let i : putRootRight (becameOf (walked .became)) (pagesOf u) (s .root) ≡ y = ap₂ (λ c ps. putRootRight c ps (s .root)) (h .became-is) (h .pages-are) in
           let j : collapse (s .height) (pagesOf w) q ≡ a = ap₂ (λ ps c. collapse (s .height) ps c) (f .pages-are ∙ ap (λ c. c .pages) i) (f .root-is ∙ ap (λ c. c .root) i) in
           let pages : pagesOf z ≡ a .pages = k .pages-are ∙ ap (λ c. c .pages) j in
           let root : r ≡ a .root = k .root-is ∙ ap (λ c. c .root) j in
@@ -94,5 +93,5 @@ all-recorded t u w z s small b v q r walked o h g k e m =
           };
     }
 
-pub from-handed-in : (t u : List ℕ) (f n v r : ℕ) (s : Sought) (b : Box) (w : code-walked.Walked) → s ≡ handedIn b → Walks t u w (fromRoot f n v (pagesOf t) r s) → Walks t u w (fromRoot f n v (pagesOf t) r (handedIn b))
-from-handed-in t u f n v r s b w e h = subst (λ (x : Sought). Walks t u w (fromRoot f n v (pagesOf t) r x)) e h
+pub from-handed-in : (t u : List ℕ) (n v r : ℕ) (s : Sought) (b : Box) (w : code-walked.Walked) → s ≡ handedIn b → Walks t u w (fromRoot n v (pagesOf t) r s) → Walks t u w (fromRoot n v (pagesOf t) r (handedIn b))
+from-handed-in t u n v r s b w e h = subst (λ (x : Sought). Walks t u w (fromRoot n v (pagesOf t) r x)) e h

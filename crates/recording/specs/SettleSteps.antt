@@ -6,24 +6,24 @@ use mathlib.Core.Path.{_≡_, refl, sym, ap, ap₂, _∙_}
 use native.Mathlib.Omega.{arith}
 use borrow.Author.Tests.{le-leb, lt-leb}
 use lib.Dec.{leb}
-use lib.ListN.{length, getD, set, replicate, length-append}
+use lib.ListN.{length, set, replicate, length-append}
 use Rattle.pages.specs.Facts.{fitting}
 use Rattle.pages.specs.Free.{lowestFree}
 use Rattle.pages.specs.FreeLaws.{lowest-at}
-use Rattle.pages.specs.Layout.{pageEntries, mostPages, zeroBox, zeroEntry, freePage, tableFits, pagesOf}
+use Rattle.pages.specs.Layout.{pageEntries, mostPages, zeroBox, zeroEntry, tableFits, pagesOf}
 use Rattle.pages.specs.LayoutLaws.{pages-length}
 use Rattle.pages.specs.Summary.{inUse, summaryOf}
 use Rattle.pages.specs.declared.Entry.{Entry}
 use Rattle.pages.specs.declared.FreePage.{FreePage}
 use Rattle.pages.specs.declared.FreePage.the-variants.{At, NoPage}
 use Rattle.pages.specs.declared.Page.{Page}
-use Rattle.split.specs.Split.{halves, pageFrom, pagesFrom, without}
+use Rattle.split.specs.Split.{halves, pageFrom, pagesFrom}
 use Rattle.split.specs.declared.filling.Halves.{Halves}
 use Rattle.wellformed.specs.WellFormed.{page}
-use Rattle.recording.specs.declared.Became as code-became
-use Rattle.recording.specs.declared.Became.the-variants as case
+use Rattle.recording.specs.declared.settle.Became as code-became
+use Rattle.recording.specs.declared.settle.Became.the-variants as case
 use Rattle.rules.specs.Scan.{Sought, handedIn}
-use Rattle.rules.specs.Recording.{Became, Became.stands, Became.split, Became.emptied, Became.again, Walked, intoPage, splitPage, settleBy, settle, exactAt, comeBackBy, comeBack}
+use Rattle.rules.specs.Recording.{Became, Became.stands, Became.split, Walked, intoPage, splitPage, settleBy, settle, exactAt, comeBackBy, comeBack}
 use Rattle.recording.specs.PageSteps.{Tidy, in-use-is, level-is, count-is}
 use Rattle.recording.specs.Views.{Leaves, becameOf}
 
@@ -54,26 +54,16 @@ settle-passes ps p level es s k = by-test (leb (length es) pageEntries)
     by-test false = let qs = set ps p (pageFrom level (halves es .first)) in by-free (lowestFree qs) qs (halves es .second)
 
 unfoldable pub cameBack : Became → List Page → ℕ → ℕ → Settled
-cameBack o ps p i = settledBy (comeBack p i 0 (record { pages = ps; became = o; sought = handedIn zeroBox; struck = 0 }))
+cameBack o ps p i = settledBy (comeBack p i (record { pages = ps; became = o; sought = handedIn zeroBox; struck = 0 }))
 
-pub come-back-passes : (p i k : ℕ) (w : Walked) → comeBack p i k w ≡ passing (cameBack (w .became) (w .pages) p i) (w .sought) (k + w .struck)
-unfolding cameBack comeBack
-come-back-passes p i k w = by-case (w .became)
+pub come-back-passes : (p i : ℕ) (w : Walked) → comeBack p i w ≡ passing (cameBack (w .became) (w .pages) p i) (w .sought) (w .struck)
+unfolding cameBack comeBack settled
+come-back-passes p i w = by-case (w .became)
   where
-    x : Page
-    x = page (w .pages) p
-
-    by-case : (o : Became) → comeBackBy o (w .pages) p (page (w .pages) p .level) (inUse (page (w .pages) p)) i (w .sought) (k + w .struck) ≡ passing (settledBy (comeBackBy o (w .pages) p (page (w .pages) p .level) (inUse (page (w .pages) p)) i (handedIn zeroBox) (0 + 0))) (w .sought) (k + w .struck)
-    by-case stands = both (exactAt (w .pages) (inUse (page (w .pages) p)) i)
-      where
-        both : (es : List Entry) → settle (w .pages) p (page (w .pages) p .level) es (w .sought) (k + w .struck) ≡ passing (settledBy (settle (w .pages) p (page (w .pages) p .level) es (handedIn zeroBox) (0 + 0))) (w .sought) (k + w .struck)
-        both es = settle-passes (w .pages) p (page (w .pages) p .level) es (w .sought) (k + w .struck) ∙ sym (ap (λ z. passing (settledBy z) (w .sought) (k + w .struck)) (settle-passes (w .pages) p (page (w .pages) p .level) es (handedIn zeroBox) (0 + 0)))
-    by-case (split q) = both (exactAt (w .pages) (inUse (page (w .pages) p)) i ++ (summaryOf q (page (w .pages) q) ∷ []))
-      where
-        both : (es : List Entry) → settle (w .pages) p (page (w .pages) p .level) es (w .sought) (k + w .struck) ≡ passing (settledBy (settle (w .pages) p (page (w .pages) p .level) es (handedIn zeroBox) (0 + 0))) (w .sought) (k + w .struck)
-        both es = settle-passes (w .pages) p (page (w .pages) p .level) es (w .sought) (k + w .struck) ∙ sym (ap (λ z. passing (settledBy z) (w .sought) (k + w .struck)) (settle-passes (w .pages) p (page (w .pages) p .level) es (handedIn zeroBox) (0 + 0)))
-    by-case emptied = refl
-    by-case again = refl
+    by-case : (o : Became) → comeBackBy o (w .pages) p (page (w .pages) p .level) (inUse (page (w .pages) p)) i (w .sought) (w .struck)
+        ≡ passing (settledBy (comeBackBy o (w .pages) p (page (w .pages) p .level) (inUse (page (w .pages) p)) i (handedIn zeroBox) 0)) (w .sought) (w .struck)
+    by-case stands = settle-passes (w .pages) p (page (w .pages) p .level) (exactAt (w .pages) (inUse (page (w .pages) p)) i) (w .sought) (w .struck)
+    by-case (split q) = settle-passes (w .pages) p (page (w .pages) p .level) (exactAt (w .pages) (inUse (page (w .pages) p)) i ++ (summaryOf q (page (w .pages) q) ∷ [])) (w .sought) (w .struck)
 
 -- a table so settled
 pub record Settles (before after : List ℕ) (r : code-became.Became) (x : Settled) : Type 0 where
@@ -138,13 +128,11 @@ settled-unsplit t u p x e h f o n d a g z =
 pub free-number : (u : List ℕ) (q : ℕ) (f : FreePage) → tableFits u ≡ true → f ≡ lowestFree (pagesOf u) → f ≡ At q → q < mostPages
 free-number u q f h e z = let l = lowest-at (pagesOf u) q (sym e ∙ z) in omega (arith, l .within, pages-length u, fitting u h .most)
 
--- the four ways back
+-- the two ways back
 pub came-standing : (t u : List ℕ) (p i : ℕ) (o : code-became.Became) (y : Page) (r : code-became.Became) → o ≡ case.Stands → Tidy y (page (pagesOf t) p .level) (exactAt (pagesOf t) (inUse (page (pagesOf t) p)) i)
     → Settles t u r (settled (pagesOf t) p (y .level) (inUse y)) → Settles t u r (cameBack (becameOf o) (pagesOf t) p i)
 unfolding cameBack comeBack settled
-came-standing t u p i o y r e h s =
-    let g = settled-own t u p (page (pagesOf t) p .level) y (exactAt (pagesOf t) (inUse (page (pagesOf t) p)) i) r h s in
-    rw e (record { same-length = g .same-length; pages-are = g .pages-are ∙ ap (λ w. w .pages) (sym (settle-passes (pagesOf t) p (page (pagesOf t) p .level) (exactAt (pagesOf t) (inUse (page (pagesOf t) p)) i) (handedIn zeroBox) (0 + 0))); became-is = g .became-is ∙ ap (λ w. w .became) (sym (settle-passes (pagesOf t) p (page (pagesOf t) p .level) (exactAt (pagesOf t) (inUse (page (pagesOf t) p)) i) (handedIn zeroBox) (0 + 0))) })
+came-standing t u p i o y r e h s = rw e (settled-own t u p (page (pagesOf t) p .level) y (exactAt (pagesOf t) (inUse (page (pagesOf t) p)) i) r h s)
 
 pub came-split : (t u : List ℕ) (p i q : ℕ) (o : code-became.Became) (y : Page) (e : Entry) (r : code-became.Became) → o ≡ case.Split q → Tidy y (page (pagesOf t) p .level) (exactAt (pagesOf t) (inUse (page (pagesOf t) p)) i) → e ≡ summaryOf q (page (pagesOf t) q)
     → Settles t u r (settled (pagesOf t) p (y .level) (inUse y ++ (e ∷ []))) → Settles t u r (cameBack (becameOf o) (pagesOf t) p i)
@@ -152,21 +140,5 @@ unfolding cameBack comeBack settled
 came-split t u p i q o y e r d h m s =
     let a = level-is y (page (pagesOf t) p .level) (exactAt (pagesOf t) (inUse (page (pagesOf t) p)) i) (h .is) in
     let b = in-use-is y (page (pagesOf t) p .level) (exactAt (pagesOf t) (inUse (page (pagesOf t) p)) i) (h .is) in
-    let es = exactAt (pagesOf t) (inUse (page (pagesOf t) p)) i ++ (summaryOf q (page (pagesOf t) q) ∷ []) in
-    let g : Settles t u r (settled (pagesOf t) p (page (pagesOf t) p .level) es) = rw (a, b, m) at s in
-    rw d (record { same-length = g .same-length; pages-are = g .pages-are ∙ ap (λ w. w .pages) (sym (settle-passes (pagesOf t) p (page (pagesOf t) p .level) es (handedIn zeroBox) (0 + 0))); became-is = g .became-is ∙ ap (λ w. w .became) (sym (settle-passes (pagesOf t) p (page (pagesOf t) p .level) es (handedIn zeroBox) (0 + 0))) })
-
-pub let-go : (t u w : List ℕ) (p i c : ℕ) (x y : Page) → x ≡ page (pagesOf t) p → c ≡ getD (inUse (page (pagesOf t) p)) i zeroEntry .child → Leaves t u (set (pagesOf t) c freePage)
-    → y ≡ pageFrom (x .level) (without i (inUse x)) → Leaves u w (set (pagesOf u) p y) → Settles t w case.Again (cameBack emptied (pagesOf t) p i)
-unfolding cameBack comeBack
-let-go t u w p i c x y e f a g b =
-    let h : set (pagesOf u) p y ≡ set (set (pagesOf t) (getD (inUse (page (pagesOf t) p)) i zeroEntry .child) freePage) p (pageFrom (page (pagesOf t) p .level) (without i (inUse (page (pagesOf t) p)))) =
-    ap₂ (λ xs z. set xs p z) (a .pages-are ∙ ap (λ n. set (pagesOf t) n freePage) f) (g ∙ ap (λ (z : Page). pageFrom (z .level) (without i (inUse z))) e) in
-    record { same-length = b .same-length ∙ a .same-length; pages-are = b .pages-are ∙ h; became-is = refl }
-
-pub came-emptied : (t u : List ℕ) (p i : ℕ) (o r : code-became.Became) → o ≡ case.Emptied → Settles t u r (cameBack emptied (pagesOf t) p i) → Settles t u r (cameBack (becameOf o) (pagesOf t) p i)
-came-emptied t u p i o r e h = rw e h
-
-pub came-again : (t u : List ℕ) (p i : ℕ) (o : code-became.Became) (y : Page) → o ≡ case.Again → Tidy y (page (pagesOf t) p .level) (exactAt (pagesOf t) (inUse (page (pagesOf t) p)) i) → Leaves t u (set (pagesOf t) p y) → Settles t u case.Again (cameBack (becameOf o) (pagesOf t) p i)
-unfolding cameBack comeBack
-came-again t u p i o y d h a = rw d (record { same-length = a .same-length; pages-are = a .pages-are ∙ ap (set (pagesOf t) p) (h .is); became-is = refl })
+    let g : Settles t u r (settled (pagesOf t) p (page (pagesOf t) p .level) (exactAt (pagesOf t) (inUse (page (pagesOf t) p)) i ++ (summaryOf q (page (pagesOf t) q) ∷ []))) = rw (a, b, m) at s in
+    rw d g

@@ -2,14 +2,12 @@
 use Prim.Native.Nat.{ℕ, zero, suc, _+_, _-_, _≤_, _<_, min}
 use mathlib.Core.Bool.{Bool, true, false, not}
 use mathlib.Core.List.{List, [], _∷_, _++_, map, append-assoc, append-nil}
-use mathlib.Core.Logic.{⊎-elim}
 use mathlib.Core.Path.{_≡_, refl, sym, ap, ap₂, _∙_}
 use native.Mathlib.Numerals.{add-one}
 use native.Mathlib.Omega.{arith}
 use borrow.Author.Tests.{not-true, not-false}
-use lib.ListN.{length, getD, set, take, drop, replicate, length-append, length-take, length-set, drop-of-length-le, length-map, List·getD-map, List·getD-eq-default}
-use lib.Seq.{drop-cons, take-suc, take-all, getD-take, set-at, getD-set-same}
-use Rattle.ground.specs.Tests.{below-or-not}
+use lib.ListN.{length, getD, set, take, drop, replicate, length-append, length-take, length-set, drop-of-length-le, length-map, List·getD-map}
+use lib.Seq.{drop-cons, take-suc, take-all, getD-take, set-at}
 use Rattle.ground.specs.declared.boxes.Box.{Box}
 use Rattle.pages.specs.Layout.{pageEntries, zeroBox, zeroEntry, freePage, pagesIn, pageAt, levelAt, countAt, entryIn, pagesOf}
 use Rattle.pages.specs.LayoutLaws.{page-made, pages-at}
@@ -17,7 +15,7 @@ use Rattle.pages.specs.Summary.{inUse}
 use Rattle.pages.specs.declared.Entry.{Entry}
 use Rattle.pages.specs.declared.Page.{Page}
 use Rattle.wellformed.specs.WellFormed.{page, childOf}
-use Rattle.rules.specs.Strike.{isStruck, consIf, select, struckOf, rest, Struck, strikeAll, strikeOne, strike}
+use Rattle.rules.specs.Strike.{isStruck, consIf, select, struckOf, rest, Struck, strikeAll, strikeOne, strike, strikePage}
 use Rattle.recording.specs.declared.strike.Children.{Children}
 use Rattle.split.specs.Split.{pageFrom}
 use Rattle.recording.specs.TableSteps.{load-out}
@@ -249,15 +247,6 @@ select-more f (x ∷ xs) e = by-test (f x) (select-more f xs e)
     by-test true h = ap (λ ys. x ∷ ys) h
     by-test false h = h
 
-select-most : (f : Entry → Bool) (xs : List Entry) → length (select f xs) ≤ length xs
-unfolding select
-select-most f [] = omega arith
-select-most f (x ∷ xs) = by-test (f x) (select-most f xs)
-  where
-    by-test : (t : Bool) → length (select f xs) ≤ length xs → length (consIf t x (select f xs)) ≤ suc (length xs)
-    by-test true h = omega arith
-    by-test false h = omega arith
-
 pub rest-kept : (b : Box) (v i : ℕ) (es : List Entry) (e : Entry) → i < length es → e ≡ getD es i zeroEntry → isStruck b v e ≡ false → restTo b v es (i + 1) ≡ restTo b v es i ++ (e ∷ [])
 unfolding restTo
 rest-kept b v i es e l d q =
@@ -306,55 +295,8 @@ closing-struck b v i k j x s old new l q t e d h =
 pub closed : (b : Box) (v i k level : ℕ) (x : Page) (kept : List Entry) → length (inUse x) ≤ i → Closing b v (inUse x) i kept k → record { level = level; count = k; entries = kept } ≡ pageFrom level (rest b v (inUse x))
 closed b v i k level x kept l h = filled-page (restTo b v (inUse x) i) level k kept (h .filled) ∙ ap (pageFrom level) (rest-all b v i (inUse x) l)
 
-pub rest-most : (b : Box) (v : ℕ) (es : List Entry) → length (rest b v es) ≤ length es
-rest-most b v es = select-most (λ x. not (isStruck b v x)) es
-
 -- a page closed up and stored after its strikes
-abbrev pub strikePage : ℕ → Box → ℕ → List Page → ℕ → Struck
-strikePage n b v ps p =
-    let x = page ps p in
-    let s = strike n b v ps (inUse x) in
-    record { pages = set (s .pages) p (pageFrom (x .level) (rest b v (inUse x))); records = s .records }
-
 pub page-struck : (n : ℕ) (b : Box) (v p k : ℕ) (t u w : List ℕ) (x y : Page) → x ≡ page (pagesOf t) p → Frees t u 0 k (strike n b v (pagesOf t) (inUse x)) → y ≡ pageFrom (x .level) (rest b v (inUse x)) → Leaves u w (set (pagesOf u) p y)
     → Frees t w 0 k (strikePage n b v (pagesOf t) p)
 page-struck n b v p k t u w x y e f c l =
     rw (← e) (record { same-length = l .same-length ∙ f .same-length; pages-are = l .pages-are ∙ ap₂ (λ qs z. set qs p z) (f .pages-are) c; struck-is = f .struck-is })
-
--- striking leaves as many pages
-all-length : (one : List Page → Entry → Struck) → ((ps : List Page) (e : Entry) → length (one ps e .pages) ≡ length ps) → (ps : List Page) (es : List Entry) → length (strikeAll one ps es .pages) ≡ length ps
-unfolding strikeAll
-all-length one k ps [] = refl
-all-length one k ps (e ∷ es) = all-length one k (one ps e .pages) es ∙ k ps e
-
-one-length : (n : ℕ) (ps : List Page) (e : Entry) → length (strikeOne n ps e .pages) ≡ length ps
-unfolding strikeOne
-one-length zero ps e = refl
-one-length (suc n) ps e = length-set (strikeAll (strikeOne n) ps (inUse (page ps (e .child))) .pages) (e .child) freePage ∙ all-length (strikeOne n) (one-length n) ps (inUse (page ps (e .child)))
-
-strike-length : (n : ℕ) (b : Box) (v : ℕ) (ps : List Page) (es : List Entry) → length (strike n b v ps es .pages) ≡ length ps
-unfolding strike
-strike-length n b v ps es = all-length (strikeOne n) (one-length n) ps (struckOf b v es)
-
--- the page lies in its place, or past the end
-pub struck-there : (n : ℕ) (b : Box) (v : ℕ) (ps : List Page) (p : ℕ) → page (strikePage n b v ps p .pages) p ≡ pageFrom (page ps p .level) (rest b v (inUse (page ps p)))
-unfolding pageFrom select
-struck-there n b v ps p = ⊎-elim inside past (below-or-not p (length ps))
-  where
-    x : Page
-    x = page ps p
-
-    y : Page
-    y = pageFrom (x .level) (rest b v (inUse x))
-
-    qs : List Page
-    qs = strike n b v ps (inUse x) .pages
-
-    inside : p < length ps → page (set qs p y) p ≡ y
-    inside l = getD-set-same qs p y freePage (omega (arith, strike-length n b v ps (inUse x)))
-
-    none : x ≡ freePage → freePage ≡ y
-    none e = ap (λ (z : Page). pageFrom (z .level) (rest b v (inUse z))) (sym e)
-
-    past : length ps ≤ p → page (set qs p y) p ≡ y
-    past l = List·getD-eq-default (set qs p y) freePage {n = p} (omega (arith, length-set qs p y, strike-length n b v ps (inUse x))) ∙ none (List·getD-eq-default ps freePage {n = p} l)

@@ -1,9 +1,9 @@
 // The call: refused with a number, the table untouched, or recorded.
-use crate::Answered;
 use crate::Called;
 use crate::Reply;
 use crate::refusal::refusal;
 use crate::refusal::sound_refusal;
+use crate::sound::Answered;
 use crate::sound::recorded;
 use ground::Box;
 use pages::Small;

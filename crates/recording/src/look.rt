@@ -1,6 +1,6 @@
 // Looking over the entries of a page where they lie: whether some are struck, and what they leave of the record.
 // The sieve of a box in which the record lies passes over most of them, eight words at once.
-use crate::Sought;
+use crate::scan::Sought;
 use ground::Box;
 ghost use mathlib.Core.Bool.{_&&_, _||_};
 ghost use mathlib.Core.Path.{_≡_};

@@ -1,9 +1,7 @@
-// The root: starting again, the new root above a split one, and the collapse.
-use crate::Became;
-use crate::Sought;
-use crate::Walked;
-use crate::page::leaf_entry;
-use crate::strike::more_struck;
+// The root: the walk from it, the new root above a split one, and the collapse.
+use crate::scan::Sought;
+use crate::settle::Became;
+use crate::strike::strike_at;
 use crate::table::blank_page;
 use crate::table::child_lying;
 use crate::table::level_of;
@@ -12,70 +10,45 @@ use crate::table::release;
 use crate::table::store;
 use crate::table::summary;
 use crate::table::used_at;
+use crate::walk::Walked;
 use crate::walk::walk_down;
-use ground::Box;
 use pages::FreePage;
 use pages::Page;
 ghost use mathlib.Core.Bool.{true};
-ghost use mathlib.Core.List.{[], _∷_};
+ghost use mathlib.Core.List.{[]};
 ghost use mathlib.Core.Path.{_≡_};
 ghost use Rattle.split.specs.Split.{pageFrom};
 ghost use Prim.Native.Nat.{_+_, _<_};
-ghost use lib.ListN.{length, getD, set};
+ghost use lib.ListN.{getD, set};
 ghost use Rattle.pages.specs.Layout.{tableFits, pagesOf, zeroEntry, freePage};
 ghost use Rattle.pages.specs.Summary.{inUse};
 ghost use Rattle.wellformed.specs.WellFormed.{page};
-ghost use Rattle.rules.specs.Recording.{leafEntry, fromRoot, newRootAt, putRootRight, oneEntry, collapse};
+ghost use Rattle.rules.specs.CameLaws.{Before};
+ghost use Rattle.rules.specs.Recording.{fromRoot, newRootAt, putRootRight, oneEntry, collapse};
 ghost use Rattle.pages.specs.Free.{lowestFree};
-ghost use Rattle.recording.specs.LookSteps.{Within};
-ghost use Rattle.recording.specs.TidyLaws.{Tidied};
-ghost use Rattle.recording.specs.WalkSteps.{MayWalk};
-ghost use Rattle.recording.specs.RootSteps.{isAgain, OnceMore, Roots, RootsIf, LevelFits, Above};
+ghost use Rattle.recording.specs.RootSteps.{Roots, RootsIf, LevelFits, Above};
 ghost use Rattle.recording.specs.Views.{Leaves, soughtOf, becameOf, Walks};
 
-fn is_again(o: Became) -> bool
-    ensures { λ r. ⌜ r ≡ isAgain (becameOf o) ⌝ }
+fn empty_leaf() -> Page
+    ensures { λ r. ⌜ r ≡ pageFrom 1 [] ⌝ }
 {
-    match o {
-        Became::Stands => false,
-        Became::Split(_) => false,
-        Became::Emptied => false,
-        Became::Again => true,
-    }
+    let mut x = blank_page();
+    x.level = 1;
+    x
 }
 
-// One more walk, with the box as already cut.
-fn once_more(t: &mut [u16], n: usize, v: u16, root: usize, w: Walked, q: &[u16; 32]) -> Walked
-    requires { ⌜ MayWalk (now t) (now q) (w .sought .place) ⌝ }
-    ensures { λ r. ⌜ OnceMore n v root (now (t .entry)) (now (t .exit)) w r ⌝ }
-{
-    let next = walk_down(t, n, v, root, w.sought, q);
-    let became = next.became;
-    let sought = next.sought;
-    Walked {
-        became,
-        sought,
-        struck: more_struck(w.struck, next.struck),
-    }
-}
-
-// Each time that the record starts again a page was freed, so as many times as there are pages suffice.
+// Rule 1 at the root, with n levels under it; rule 2: left with no entry, it becomes an empty leaf; and on.
 pub fn from_root(t: &mut [u16], n: usize, v: u16, root: usize, s: Sought) -> Walked
-    requires { ⌜ (tableFits (now t) ≡ true) × Tidied (pagesOf (now t)) × Within (s .place) (s .place) ⌝ }
-    ensures { λ r. ⌜ Walks (now (t .entry)) (now (t .exit)) r (fromRoot (length (pagesOf (now (t .entry)))) n v (pagesOf (now (t .entry))) root (soughtOf s)) ⌝ }
+    requires { ⌜ (tableFits (now t) ≡ true) × Before n v (pagesOf (now t)) root (soughtOf s) ⌝ }
+    ensures { λ r. ⌜ Walks (now (t .entry)) (now (t .exit)) r (fromRoot n v (pagesOf (now (t .entry))) root (soughtOf s)) ⌝ }
 {
-    let mut fuel = t.len() / Page::WORDS;
     let q = sieve::sieve_of(s.place);
-    let mut w = walk_down(t, n, v, root, s, &q);
-    while fuel > 0 {
-        let became = w.became;
-        if !is_again(became) {
-            return w;
-        }
-        w = once_more(t, n, v, root, w, &q);
-        fuel -= 1;
+    let struck = strike_at(t, n, v, root, s.place, &q);
+    if used_at(t, root) == 0 {
+        store(t, root, empty_leaf());
+        return walk_down(t, 0, v, root, s, struck, &q);
     }
-    w
+    walk_down(t, n, v, root, s, struck, &q)
 }
 
 fn one_entry(t: &[u16], root: u16) -> bool
@@ -154,28 +127,12 @@ fn new_root(t: &mut [u16], root: u16, second: u16) -> u16
     }
 }
 
-// An empty leaf root with the record appended.
-fn only_leaf(b: Box, v: u16) -> Page
-    ensures { λ r. ⌜ r ≡ pageFrom 1 (leafEntry b v ∷ []) ⌝ }
-{
-    let mut x = blank_page();
-    x.entries[0] = leaf_entry(b, v);
-    x.level = 1;
-    x.count = 1;
-    x
-}
-
-pub fn put_root_right(t: &mut [u16], o: Became, root: u16, v: u16, s: Sought) -> u16
+pub fn put_root_right(t: &mut [u16], o: Became, root: u16) -> u16
     requires { ⌜ tableFits (now t) ≡ true ⌝ }
-    ensures { λ r. ⌜ RootsIf (LevelFits (pagesOf (now (t .entry))) root) (now (t .entry)) (now (t .exit)) r (putRootRight (becameOf o) (pagesOf (now (t .entry))) root v (soughtOf s)) ⌝ }
+    ensures { λ r. ⌜ RootsIf (LevelFits (pagesOf (now (t .entry))) root) (now (t .entry)) (now (t .exit)) r (putRootRight (becameOf o) (pagesOf (now (t .entry))) root) ⌝ }
 {
     match o {
         Became::Stands => root,
         Became::Split(q) => new_root(t, root, q),
-        Became::Emptied => {
-            store(t, root as usize, only_leaf(s.place, v));
-            root
-        }
-        Became::Again => root,
     }
 }

@@ -1,10 +1,18 @@
 // Rule 3: each candidate, in order and once, meets the box as already cut.
-use crate::Sought;
 use ground::Box;
 use ground::Cut;
 ghost use mathlib.Core.Path.{_≡_};
 ghost use Rattle.rules.specs.Scan.{met, candidate};
 ghost use Rattle.recording.specs.Views.{soughtOf};
+
+// What is being recorded: the box as already cut, whether it was cut, and whether a candidate covers it.
+// It is copied at every page, and sixteen bytes are copied at once: the spare word, which means nothing, fills them up.
+pub struct Sought {
+    pub place: Box,
+    pub cut: bool,
+    pub covered: bool,
+    pub spare: u16,
+}
 
 impl Sought {
     pub fn handed_in(b: Box) -> Sought

@@ -1,10 +1,7 @@
 // Settling a page: it is stored, or split if it has nine entries.
-use crate::Became;
-use crate::page::take_out;
 use crate::table::child_lying;
 use crate::table::load;
 use crate::table::put_at;
-use crate::table::release;
 use crate::table::store;
 use crate::table::summary;
 use crate::table::used_at;
@@ -20,13 +17,17 @@ ghost use lib.ListN.{set};
 ghost use Rattle.pages.specs.Layout.{pageEntries, tableFits, pagesOf};
 ghost use Rattle.pages.specs.Summary.{inUse};
 ghost use Rattle.wellformed.specs.WellFormed.{page};
-ghost use Rattle.rules.specs.Recording.{Became.emptied};
-ghost use Rattle.recording.specs.PageSteps.{Tidy};
+ghost use Rattle.recording.specs.PageSteps.{Tidy, TidyPage};
 ghost use Rattle.recording.specs.LyingSteps.{exactPage, settledAt};
 ghost use Rattle.recording.specs.LowSteps.{NoneBut, Low};
 ghost use Rattle.recording.specs.SettleSteps.{Settles, settled, cameBack};
-ghost use Rattle.recording.specs.TidyLaws.{TidyPage};
 ghost use Rattle.recording.specs.Views.{Leaves, becameOf};
+
+// What became of a page: it stands, or it was split, and this page took the second group.
+pub enum Became {
+    Stands,
+    Split(u16),
+}
 
 // Where the search for a free page begins: a page of level 0 that is split could itself be the lowest.
 fn begin_at(level: u16, from: usize) -> usize
@@ -78,17 +79,6 @@ pub fn append_at(t: &mut [u16], p: usize, e: Entry, from: usize) -> Became
     split_page(t, p, load(t, p), e, from)
 }
 
-// The child at place i, left with no entry, is freed and its entry taken out; the record starts again at the root.
-fn let_go(t: &mut [u16], p: usize, i: usize) -> Became
-    requires { ⌜ tableFits (now t) ≡ true ⌝ }
-    ensures { λ r. ⌜ Settles (now (t .entry)) (now (t .exit)) r (cameBack emptied (pagesOf (now (t .entry))) p i) ⌝ }
-{
-    let x = load(t, p);
-    release(t, child_lying(t, p, i) as usize);
-    store(t, p, take_out(x, i));
-    Became::Again
-}
-
 // Coming back to page p from the child at place i, of which this became.
 pub fn come_back(t: &mut [u16], p: usize, i: usize, child: Became) -> Became
     requires { ⌜ (tableFits (now t) ≡ true) × TidyPage (page (pagesOf (now t)) p) × Low (becameOf child) (pagesOf (now t)) ⌝ }
@@ -103,11 +93,6 @@ pub fn come_back(t: &mut [u16], p: usize, i: usize, child: Became) -> Became
             let e = summary(t, q);
             make_exact(t, p, i);
             append_at(t, p, e, q as usize)
-        }
-        Became::Emptied => let_go(t, p, i),
-        Became::Again => {
-            make_exact(t, p, i);
-            Became::Again
         }
     }
 }

@@ -1,17 +1,16 @@
 // Recording on a book known to be sound: the walk, the root put right, and the small record.
-use crate::Answered;
 use crate::Outcome;
-use crate::Sought;
-use crate::Walked;
 use crate::root::collapse;
 use crate::root::from_root;
 use crate::root::put_root_right;
+use crate::scan::Sought;
 use crate::table::level_of;
+use crate::walk::Walked;
 use ground::Box;
 use pages::Small;
 ghost use mathlib.Core.Bool.{true, cond};
 ghost use mathlib.Core.Path.{_≡_};
-ghost use Prim.Native.Nat.{_+_, _≤_};
+ghost use Prim.Native.Nat.{_+_, _≤_, _<_};
 ghost use Rattle.pages.specs.Layout.{tableFits, pagesOf};
 ghost use Rattle.wellformed.specs.WellFormed.{mostAccepted};
 ghost use Rattle.recording.specs.CallSteps.{answeredOf};
@@ -20,6 +19,13 @@ ghost use Rattle.rules.specs.RecordLaws.{Accepted};
 ghost use Rattle.rules.specs.Recording.{outcomeOf, recorded};
 ghost use Rattle.recording.specs.RecordSteps.{outcomeIs, SmallMade};
 ghost use Rattle.recording.specs.Views.{mostStruck, soughtOf};
+
+// The answer with the struck count, and the small record afterwards.
+pub struct Answered {
+    pub outcome: Outcome,
+    pub struck: u32,
+    pub small: Small,
+}
 
 fn outcome_of(s: Sought) -> Outcome
     ensures { λ r. ⌜ outcomeIs r ≡ outcomeOf (soughtOf s) ⌝ }
@@ -41,7 +47,7 @@ fn one_if(c: bool) -> u32
 
 // Accepted rises by one, struck by the count, covered by one for Covered; the height is the root page's level.
 fn small_after(t: &[u16], s: Small, w: Walked, root: u16) -> Small
-    requires { ⌜ (tableFits (now t) ≡ true) × (s .accepted ≤ mostAccepted) × (s .struck ≤ mostAccepted) × (s .covered ≤ mostAccepted) × (w .struck ≤ mostStruck) ⌝ }
+    requires { ⌜ (tableFits (now t) ≡ true) × (s .accepted < mostAccepted) × (s .struck ≤ mostAccepted) × (s .covered ≤ mostAccepted) × (w .struck ≤ mostStruck) ⌝ }
     ensures { λ r. ⌜ SmallMade (now (t .entry)) s w root r ⌝ }
 {
     let level = level_of(t, root);
@@ -64,7 +70,7 @@ pub fn recorded(t: &mut [u16], s: Small, b: Box, v: u16) -> Answered
     let w = from_root(t, height - 1, v, root as usize, Sought::handed_in(b));
     let became = w.became;
     let sought = w.sought;
-    let top = put_root_right(t, became, root, v, sought);
+    let top = put_root_right(t, became, root);
     let last = collapse(t, height, top);
     let small = small_after(t, s, w, last);
     Answered {

@@ -5,7 +5,6 @@ use crate::table::load;
 use crate::table::release;
 use crate::table::store;
 use crate::table::used;
-use crate::table::used_at;
 use ground::Box;
 use pages::Entry;
 use pages::Page;
@@ -13,21 +12,20 @@ use pages::Small;
 ghost use mathlib.Core.Bool.{true};
 ghost use mathlib.Core.List.{map};
 ghost use mathlib.Core.Path.{_≡_};
-ghost use Prim.Native.Nat.{_+_, _≤_, min};
-ghost use lib.ListN.{length};
-ghost use Rattle.pages.specs.Layout.{pageEntries, tableFits, pagesOf};
+ghost use Prim.Native.Nat.{_+_, min};
+ghost use Rattle.pages.specs.Layout.{tableFits, pagesOf};
 ghost use Rattle.pages.specs.Summary.{inUse};
 ghost use Rattle.split.specs.Split.{pageFrom};
 ghost use Rattle.wellformed.specs.WellFormed.{page, childOf};
-ghost use Rattle.rules.specs.Strike.{isStruck, rest, strike};
-ghost use Rattle.recording.specs.StrikeSteps.{Named, freeUnder, strikeIf, strikePage};
+ghost use Rattle.rules.specs.Strike.{isStruck, rest, strike, strikePage};
+ghost use Rattle.recording.specs.StrikeSteps.{Named, freeUnder, strikeIf};
 ghost use Rattle.recording.specs.Views.{mostStruck, Frees};
-ghost use Rattle.recording.specs.WalkSteps.{MayWalk};
+ghost use Rattle.recording.specs.WalkSteps.{MayStrike};
 
 // The pages that a page's entries name. Held while they are freed, since a spoilt table may name the page itself.
 pub struct Children {
     pub count: usize,
-    pub pages: [u16; 8],
+    pub pages: [u16; Page::ENTRIES],
 }
 
 fn no_children() -> Children
@@ -35,7 +33,7 @@ fn no_children() -> Children
 {
     Children {
         count: 0,
-        pages: [0; 8],
+        pages: [0; Page::ENTRIES],
     }
 }
 
@@ -165,12 +163,9 @@ fn strike_page(t: &mut [u16], n: usize, b: Box, v: u16, p: usize) -> u32
 
 // Only where the look sees an entry that may be struck: any other page is left as it lies.
 pub fn strike_at(t: &mut [u16], n: usize, v: u16, p: usize, b: Box, q: &[u16; 32]) -> u32
-    requires { ⌜ MayWalk (now t) (now q) b ⌝ }
+    requires { ⌜ MayStrike (now t) (now q) p b ⌝ }
     ensures { λ r. ⌜ Frees (now (t .entry)) (now (t .exit)) 0 r (strikePage n b v (pagesOf (now (t .entry))) p) ⌝ }
 {
-    if used_at(t, p) == 0 {
-        return 0;
-    }
     if some_struck(t, p, v, q) {
         return strike_page(t, n, b, v, p);
     }

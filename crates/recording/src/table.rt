@@ -41,7 +41,7 @@ pub fn blank_page() -> Page
     Page {
         level: 0,
         count: 0,
-        entries: [none; 8],
+        entries: [none; Page::ENTRIES],
     }
 }
 

@@ -1,27 +1,43 @@
-// The walk from the root down and back: strike, scan, choose, go down one level, come back.
-use crate::Became;
-use crate::Sought;
-use crate::Walked;
+// The walk from a page whose strikes are done: scan, choose, strike at the child, go on there, come back.
 use crate::choose::choose_at;
 use crate::look::scan_index;
 use crate::look::scan_leaf;
-use crate::page::leaf_entry;
+use crate::scan::Sought;
+use crate::settle::Became;
 use crate::settle::append_at;
 use crate::settle::come_back;
 use crate::strike::more_struck;
 use crate::strike::strike_at;
 use crate::table::child_lying;
-use crate::table::used_at;
+use ground::Box;
+use pages::Entry;
 ghost use mathlib.Core.Bool.{true};
 ghost use mathlib.Core.Path.{_≡_};
+ghost use Prim.Native.Nat.{_≤_};
 ghost use Rattle.pages.specs.Layout.{tableFits, pagesOf};
 ghost use Rattle.wellformed.specs.WellFormed.{page};
 ghost use Rattle.rules.specs.Recording.{leafEntry, walkDown};
 ghost use Rattle.recording.specs.LyingSteps.{leafSettled};
+ghost use Rattle.recording.specs.PageSteps.{TidyPage};
 ghost use Rattle.recording.specs.SettleSteps.{Settles};
-ghost use Rattle.recording.specs.TidyLaws.{TidyPage};
-ghost use Rattle.recording.specs.Views.{soughtOf, Walks};
+ghost use Rattle.recording.specs.Views.{mostStruck, soughtOf, WalksOn};
 ghost use Rattle.recording.specs.WalkSteps.{MayWalk};
+
+// What the walk at a page hands back.
+pub struct Walked {
+    pub became: Became,
+    pub sought: Sought,
+    pub struck: u32,
+}
+
+fn leaf_entry(b: Box, v: u16) -> Entry
+    ensures { λ r. ⌜ r ≡ leafEntry b v ⌝ }
+{
+    let mut e = crate::table::zero_entry();
+    e.place = b;
+    e.gust = v;
+    e
+}
 
 // What is left of the record is appended to the leaf, unless it is covered.
 fn append_left(t: &mut [u16], v: u16, p: usize, found: Sought) -> Became
@@ -35,18 +51,10 @@ fn append_left(t: &mut [u16], v: u16, p: usize, found: Sought) -> Became
 }
 
 // All of the walk at a leaf.
-fn at_leaf(t: &mut [u16], v: u16, p: usize, s: Sought, q: &[u16; 32]) -> Walked
-    requires { ⌜ MayWalk (now t) (now q) (s .place) ⌝ }
-    ensures { λ r. ⌜ Walks (now (t .entry)) (now (t .exit)) r (walkDown 0 v (pagesOf (now (t .entry))) p (soughtOf s)) ⌝ }
+fn at_leaf(t: &mut [u16], v: u16, p: usize, s: Sought, struck: u32, q: &[u16; 32]) -> Walked
+    requires { ⌜ MayWalk 0 v (now t) (now q) p (soughtOf s) ⌝ }
+    ensures { λ r. ⌜ WalksOn (now (t .entry)) (now (t .exit)) struck r (walkDown 0 v (pagesOf (now (t .entry))) p (soughtOf s)) ⌝ }
 {
-    let struck = strike_at(t, 0, v, p, s.place, q);
-    if used_at(t, p) == 0 {
-        return Walked {
-            became: Became::Emptied,
-            sought: s,
-            struck,
-        };
-    }
     let found = scan_leaf(t, p, v, q, s);
     let became = append_left(t, v, p, found);
     Walked {
@@ -57,20 +65,20 @@ fn at_leaf(t: &mut [u16], v: u16, p: usize, s: Sought, q: &[u16; 32]) -> Walked
 }
 
 // Page p, with n levels under it. Pages by value live in callees that have returned before the next level is begun.
-pub fn walk_down(t: &mut [u16], n: usize, v: u16, p: usize, s: Sought, q: &[u16; 32]) -> Walked
-    requires { ⌜ MayWalk (now t) (now q) (s .place) ⌝ }
-    ensures { λ r. ⌜ Walks (now (t .entry)) (now (t .exit)) r (walkDown n v (pagesOf (now (t .entry))) p (soughtOf s)) ⌝ }
+pub fn walk_down(
+    t: &mut [u16],
+    n: usize,
+    v: u16,
+    p: usize,
+    s: Sought,
+    struck: u32,
+    q: &[u16; 32],
+) -> Walked
+    requires { ⌜ MayWalk n v (now t) (now q) p (soughtOf s) × (struck ≤ mostStruck) ⌝ }
+    ensures { λ r. ⌜ WalksOn (now (t .entry)) (now (t .exit)) struck r (walkDown n v (pagesOf (now (t .entry))) p (soughtOf s)) ⌝ }
 {
     if n == 0 {
-        return at_leaf(t, v, p, s, q);
-    }
-    let struck = strike_at(t, n, v, p, s.place, q);
-    if used_at(t, p) == 0 {
-        return Walked {
-            became: Became::Emptied,
-            sought: s,
-            struck,
-        };
+        return at_leaf(t, v, p, s, struck, q);
     }
     let found = scan_index(t, p, v, q, s);
     if found.covered {
@@ -82,13 +90,22 @@ pub fn walk_down(t: &mut [u16], n: usize, v: u16, p: usize, s: Sought, q: &[u16;
     }
     let i = choose_at(t, p, found.place);
     let child = child_lying(t, p, i);
-    let lower = walk_down(t, n - 1, v, child as usize, found, q);
+    let more = strike_at(t, n - 1, v, child as usize, found.place, q);
+    let lower = walk_down(
+        t,
+        n - 1,
+        v,
+        child as usize,
+        found,
+        more_struck(struck, more),
+        q,
+    );
     let below = lower.became;
     let became = come_back(t, p, i, below);
     let sought = lower.sought;
     Walked {
         became,
         sought,
-        struck: more_struck(struck, lower.struck),
+        struck: lower.struck,
     }
 }

@@ -21,11 +21,12 @@ use Rattle.split.specs.SplitLaws.{weigh, weigh-count}
 use Rattle.wellformed.specs.WellFormed.{page, mostAccepted}
 use Rattle.rules.specs.CameLaws.{kept, keptIf, Before}
 use Rattle.rules.specs.CollapseLaws.{Collapsed, collapse-law}
+use Rattle.rules.specs.Frame.{rootLoad, rootRecords}
 use Rattle.rules.specs.FromRoot.{GrownTo, root-law}
 use Rattle.rules.specs.Lists.{bestOf}
 use Rattle.rules.specs.Moves.{only, free, Clean, Apart}
-use Rattle.rules.specs.Recording.{Outcome, Outcome.Kept, Outcome.Cut, Outcome.Covered, Walked, Rooted, putRootRight, collapse, fromRoot, outcomeOf, smallAfter, Recorded, recorded}
-use Rattle.rules.specs.RootLaws.{rootLoad, rootRecords, Grown}
+use Rattle.rules.specs.Recording.{Outcome, Outcome.Kept, Outcome.Cut, Outcome.Covered, Walked, Rooted, putRootRight, collapse, fromRoot, putRight, Recorded, recorded}
+use Rattle.rules.specs.RootLaws.{Grown}
 use Rattle.rules.specs.Scan.{handedIn}
 use Rattle.rules.specs.Score.{score}
 use Rattle.rules.specs.Tree.{hit, Stands, Sound, level-of}
@@ -97,24 +98,20 @@ module _ (ps : List Page) (s : Small) (book : Book ps s) (b : Box) (v : ℕ) (la
 
   -- the record with k levels under the root's entries
   at : ℕ → Recorded
-  at k =
-      let w = fromRoot (length ps) k v ps (s .root) (handedIn b) in
-      let t = putRootRight (w .became) (w .pages) (s .root) v (w .sought) in
-      let r = collapse (s .height) (t .pages) (t .root) in
-      record { answer = record { outcome = outcomeOf (w .sought); struck = w .struck }; pages = r .pages; small = smallAfter s w r }
+  at k = putRight s (fromRoot k v ps (s .root) (handedIn b))
 
   w : Walked
-  w = fromRoot (length ps) n v ps (s .root) (handedIn b)
+  w = fromRoot n v ps (s .root) (handedIn b)
 
   t : Rooted
-  t = putRootRight (w .became) (w .pages) (s .root) v (w .sought)
+  t = putRootRight (w .became) (w .pages) (s .root)
 
   r : Rooted
   r = collapse (s .height) (t .pages) (t .root)
 
   grown : GrownTo n v ps (s .root) (handedIn b) w t
   unfolding w t n
-  grown = root-law n v ps (s .root) (handedIn b) before (let h = book .height in omega arith) (length ps)
+  grown = root-law n v ps (s .root) (handedIn b) before (let h = book .height in omega arith)
 
   collapsed : Collapsed n v ps (s .root) b (w .struck) (w .sought) apart r
   unfolding r

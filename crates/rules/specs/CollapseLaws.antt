@@ -18,10 +18,10 @@ use Rattle.split.specs.Split.{pageFrom}
 use Rattle.split.specs.SplitLaws.{weigh, Each, weigh-append}
 use Rattle.wellformed.specs.WellFormed.{page}
 use Rattle.rules.specs.CameLaws.{allRecords, weaken, best-perm}
-use Rattle.rules.specs.Frame.{loads, Unchanged, frame}
+use Rattle.rules.specs.Frame.{loads, rootLoad, rootRecords, Unchanged, frame}
 use Rattle.rules.specs.Moves.{only, Pages, Apart, Moved, moved-apart, beside, again, then, release}
 use Rattle.rules.specs.Recording.{Rooted, oneEntry, collapseBy, collapse}
-use Rattle.rules.specs.RootLaws.{rootLoad, rootRecords, Grown}
+use Rattle.rules.specs.RootLaws.{Grown}
 use Rattle.rules.specs.Scan.{Sought}
 use Rattle.rules.specs.StrikeLaws.{nothing, standing}
 use Rattle.rules.specs.Tree.{load, records, hit, Stands, Sound, level-of}

@@ -18,8 +18,8 @@ use Rattle.wellformed.specs.WellFormed.{page, wellFormed}
 use mathlib.Core.List.{flatMap}
 use Rattle.rules.specs.Book.{Book}
 use Rattle.rules.specs.FromWellFormed.{Conditions}
+use Rattle.rules.specs.Frame.{rootLoad}
 use Rattle.rules.specs.Moves.{freeAt, free, Clean, total-change}
-use Rattle.rules.specs.RootLaws.{rootLoad}
 use Rattle.rules.specs.ToWellFormed.{conditions}
 
 module _ (k : ℕ) where

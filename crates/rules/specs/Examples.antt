@@ -16,7 +16,7 @@ use Rattle.pages.specs.declared.Small.{Small}
 use Rattle.split.specs.Split.{halves, pageFrom, begin, seeds, places, pairs, pairsWith, mostWasteful, wastesMore, placeAll, place, takes, next, firstMost, growthsDiffer, growth as groupGrowth, secondTakes}
 use Rattle.rules.specs.Strike.{select, strikeAll, strikeOne, strike}
 use Rattle.rules.specs.Scan.{candidate, scanEntry, scan}
-use Rattle.rules.specs.Recording.{growth, goesBefore, leastGrown, choose, leafEntry, splitPage, settle, exactAt, comeBack, append, goDown, goOn, atPage, walkDown, fromRoot, collapse, Outcome.Kept, Outcome.Cut, Answer, recorded}
+use Rattle.rules.specs.Recording.{growth, goesBefore, leastGrown, choose, leafEntry, splitPage, settle, exactAt, comeBack, append, goDown, goOn, walkDown, fromRoot, collapse, Outcome.Kept, Outcome.Cut, Answer, recorded}
 
 -- an empty book of 180 pages, and the answers of records one after another
 abbrev emptyPages : List Page
@@ -67,7 +67,7 @@ nineSmall = record { root = 2; height = 2; accepted = 9; struck = 0; covered = 0
 pub nine-in-a-row :
     run emptyPages emptySmall (cells (0 ∷ 10 ∷ 20 ∷ 30 ∷ 40 ∷ 50 ∷ 60 ∷ 70 ∷ 80 ∷ []))
     ≡ record { answers = replicate 9 kept; pages = ninePages; small = nineSmall }
-unfolding run recorded fromRoot collapse walkDown atPage goOn goDown append comeBack exactAt settle splitPage choose leastGrown goesBefore growth scan scanEntry candidate strike strikeOne strikeAll select cut cutsOn coversOneEnd left leftOn xor covers touches join size summaryOf summary covering firstGreatest leastOf lowestFrom halves pageFrom begin seeds places pairs pairsWith mostWasteful wastesMore placeAll place takes next firstMost growthsDiffer groupGrowth secondTakes
+unfolding run recorded fromRoot collapse walkDown goOn goDown append comeBack exactAt settle splitPage choose leastGrown goesBefore growth scan scanEntry candidate strike strikeOne strikeAll select cut cutsOn coversOneEnd left leftOn xor covers touches join size summaryOf summary covering firstGreatest leastOf lowestFrom halves pageFrom begin seeds places pairs pairsWith mostWasteful wastesMore placeAll place takes next firstMost growthsDiffer groupGrowth secondTakes
 nine-in-a-row = refl
 
 -- a record over all of them, as strong: the index root is left with no entry and becomes, in its place, a leaf root
@@ -78,7 +78,7 @@ pub all-nine-struck :
       pages = freePage ∷ freePage ∷ pageFrom 1 (leafEntry (row 0 80) 100 ∷ []) ∷ replicate 177 freePage;
       small = record { root = 2; height = 1; accepted = 10; struck = 9; covered = 0 };
     }
-unfolding recorded fromRoot collapse walkDown atPage goOn goDown append comeBack exactAt settle splitPage choose leastGrown goesBefore growth scan scanEntry candidate strike strikeOne strikeAll select cut cutsOn coversOneEnd left leftOn xor covers touches join size summaryOf summary covering firstGreatest leastOf lowestFrom pageFrom
+unfolding recorded fromRoot collapse walkDown goOn goDown append comeBack exactAt settle splitPage choose leastGrown goesBefore growth scan scanEntry candidate strike strikeOne strikeAll select cut cutsOn coversOneEnd left leftOn xor covers touches join size summaryOf summary covering firstGreatest leastOf lowestFrom pageFrom
 all-nine-struck = refl
 
 -- a record over the first group: the root is left with one entry, and its child becomes the root
@@ -89,7 +89,7 @@ pub root-collapses :
       pages = freePage ∷ pageFrom 1 (leafEntry (row 80 80) 100 ∷ leafEntry (row 60 60) 100 ∷ leafEntry (row 70 70) 100 ∷ leafEntry (row 0 55) 100 ∷ []) ∷ freePage ∷ replicate 177 freePage;
       small = record { root = 1; height = 1; accepted = 10; struck = 6; covered = 0 };
     }
-unfolding recorded fromRoot collapse walkDown atPage goOn goDown append comeBack exactAt settle splitPage choose leastGrown goesBefore growth scan scanEntry candidate strike strikeOne strikeAll select cut cutsOn coversOneEnd left leftOn xor covers touches join size summaryOf summary covering firstGreatest leastOf lowestFrom pageFrom
+unfolding recorded fromRoot collapse walkDown goOn goDown append comeBack exactAt settle splitPage choose leastGrown goesBefore growth scan scanEntry candidate strike strikeOne strikeAll select cut cutsOn coversOneEnd left leftOn xor covers touches join size summaryOf summary covering firstGreatest leastOf lowestFrom pageFrom
 root-collapses = refl
 
 -- the first error that looks right: held east 10 to 19, new 10 to 29, equal gusts. The held one cuts from the index page, and the new one, as cut, does not strike it in its leaf.
@@ -110,5 +110,5 @@ pub cut-from-the-index :
       pages = incidentPages (leafEntry (row 20 29) 100 ∷ []);
       small = record { root = 2; height = 2; accepted = 8; struck = 0; covered = 0 };
     }
-unfolding recorded fromRoot collapse walkDown atPage goOn goDown append comeBack exactAt settle splitPage choose leastGrown goesBefore growth scan scanEntry candidate strike strikeOne strikeAll select cut cutsOn coversOneEnd left leftOn xor covers touches join size summaryOf summary covering firstGreatest leastOf lowestFrom pageFrom
+unfolding recorded fromRoot collapse walkDown goOn goDown append comeBack exactAt settle splitPage choose leastGrown goesBefore growth scan scanEntry candidate strike strikeOne strikeAll select cut cutsOn coversOneEnd left leftOn xor covers touches join size summaryOf summary covering firstGreatest leastOf lowestFrom pageFrom
 cut-from-the-index = refl

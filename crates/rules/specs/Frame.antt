@@ -17,6 +17,13 @@ use Rattle.rules.specs.Tree.{load, records, Shown, Sound}
 abbrev pub loads : List Page → ℕ → List Entry → Pages
 loads ps n es h = weigh (load ps h n) es
 
+-- the pages and the records of the tree at page r, with m levels under its entries
+abbrev pub rootLoad : List Page → ℕ → ℕ → Pages
+rootLoad ps m r h = h r + loads ps m (inUse (page ps r)) h
+
+abbrev pub rootRecords : List Page → ℕ → ℕ → List Entry
+rootRecords ps m r = flatMap (records ps m) (inUse (page ps r))
+
 pub record Unchanged (ps qs : List Page) (n : ℕ) (e : Entry) : Type 0 where
   pub sound : Sound qs n e
   pub same-load : (h : ℕ → ℕ) → load qs h n e ≡ load ps h n e

@@ -19,17 +19,15 @@ use Rattle.pages.specs.Words.{every, allZero}
 use Rattle.pages.specs.declared.Entry.{Entry}
 use Rattle.pages.specs.declared.Page.{Page}
 use Rattle.pages.specs.declared.Small.{Small}
-use Rattle.split.specs.Split.{pageFrom}
 use Rattle.split.specs.SplitLaws.{Each}
 use Rattle.wellformed.specs.Counting.{times-sum, sum-by-page, Each as EachPage}
 use Rattle.wellformed.specs.Flat.{below, Lower, graded}
 use Rattle.wellformed.specs.WellFormed.{everyBelow, times, page, childOf, walk, reached, heldRecords, rootStands, childrenLower, reachedOnce, leastCount, countStands, leafEntryStands, isExact, entriesStand, pageStands, mostAccepted, countsStand, leafEntries}
 use Rattle.rules.specs.Book.{Book}
-use Rattle.rules.specs.Frame.{loads}
+use Rattle.rules.specs.Frame.{loads, rootLoad, rootRecords}
 use Rattle.rules.specs.Lists.{each-both}
 use Rattle.rules.specs.Moves.{only, freeAt, free, Clean}
 use Rattle.rules.specs.ReachLaws.{index-children, held-at, sum-at, inside-at, in-entries}
-use Rattle.rules.specs.RootLaws.{rootLoad, rootRecords}
 use Rattle.rules.specs.StrikeLaws.{standing}
 use Rattle.rules.specs.Tree.{Stands, Sound}
 use Rattle.rules.specs.WordFacts.{words-determine, zero-entries, page-form, in-use-length, every-each}
@@ -241,19 +239,3 @@ module _ (ps : List Page) (s : Small) (c : Conditions ps s) where
         few = leb-true (s .accepted) mostAccepted (k .0);
         counts = let a = ap length held-is in let b = eqb-true (length (heldRecords ps s) + s .struck + s .covered) (s .accepted) (k .1) in omega arith;
       }
-
-  -- a well-formed book's pages: at most eight entries, and all that is unused is 0
-  pub all-formed : (p : ℕ) → (page ps p ≡ pageFrom (page ps p .level) (inUse (page ps p))) × (length (inUse (page ps p)) ≤ pageEntries)
-  unfolding pageFrom
-  all-formed p = ⊎-elim (λ (l : p < length ps). by-test l (isFree (page ps p)) refl) (λ (l : length ps ≤ p). free-one (List·getD-eq-default ps freePage {n = p} l)) (below-or-not p (length ps))
-    where
-      free-one : page ps p ≡ freePage → (page ps p ≡ pageFrom (page ps p .level) (inUse (page ps p))) × (length (inUse (page ps p)) ≤ pageEntries)
-      free-one e = subst (λ (x : Page). (x ≡ pageFrom (x .level) (inUse x)) × (length (inUse x) ≤ pageEntries)) (sym e) (refl, omega arith)
-
-      by-test : p < length ps → (b : Bool) → isFree (page ps p) ≡ b → (page ps p ≡ pageFrom (page ps p .level) (inUse (page ps p))) × (length (inUse (page ps p)) ≤ pageEntries)
-      by-test l true f = free-one (clean p f)
-      by-test l false f =
-          let b = busy p l f in
-          let k = in-use-length (page ps p) (c .eight p l) (b .most) in
-          let m = b .most in
-          (page-form (page ps p) (page ps p .level) refl (c .eight p l) (b .most) (b .zeros), omega arith)

@@ -2,21 +2,21 @@
 use mathlib.Core.Bool.{Bool, true, false, _&&_}
 use mathlib.Core.List.{List, [], _∷_, _++_, flatMap}
 use mathlib.Core.Path.{_≡_, refl, sym, ap, _∙_, subst}
-use Prim.Native.Nat.{ℕ, _+_, max, _≤_}
+use Prim.Native.Nat.{ℕ, _+_, max}
 use native.Mathlib.Omega.{arith}
-use lib.ListN.{length, length-append}
+use lib.ListN.{length-append}
 use Rattle.ground.specs.Boxes.{covers, legal, gustPasses}
 use Rattle.ground.specs.Tests.{joint}
 use Rattle.ground.specs.declared.boxes.Box.{Box}
-use Rattle.pages.specs.Free.{freeCount}
-use Rattle.pages.specs.Layout.{pageEntries, wordsOfBox, wordsOfEntry}
+use Rattle.pages.specs.Layout.{wordsOfBox, wordsOfEntry}
+use Rattle.pages.specs.Summary.{inUse}
 use Rattle.pages.specs.Words.{every}
 use Rattle.pages.specs.declared.Entry.{Entry}
 use Rattle.pages.specs.declared.Page.{Page}
 use Rattle.split.specs.SplitLaws.{weigh, weigh-append, each-append}
-use Rattle.wellformed.specs.WellFormed.{leafEntryStands}
-use Rattle.rules.specs.CameLaws.{allRecords, kept, keptIf, Came, best-perm, settle-hands-on}
-use Rattle.rules.specs.Frame.{loads}
+use Rattle.wellformed.specs.WellFormed.{page, leafEntryStands}
+use Rattle.rules.specs.CameLaws.{allRecords, kept, keptIf, CameFrom, Before, best-perm, settle-hands-on}
+use Rattle.rules.specs.Frame.{loads, rootLoad}
 use Rattle.rules.specs.Lists.{bestOf, best-append, best-one, best-flat}
 use Rattle.rules.specs.Moves.{only, again}
 use Rattle.rules.specs.OnePage.{bests, scan-keeps}
@@ -25,7 +25,8 @@ use Rattle.rules.specs.Scan.{Sought, scan}
 use Rattle.rules.specs.Score.{score, Scanned}
 use Rattle.rules.specs.SettleLaws.{Settled, Ready}
 use Rattle.rules.specs.SplitPageLaws.{settle-law}
-use Rattle.rules.specs.Tree.{load, records, hit, Sound}
+use Rattle.rules.specs.StrikeLaws.{standing}
+use Rattle.rules.specs.Tree.{load, records, hit, Sound, level-of}
 
 -- a legal record is a sound leaf entry
 pub leaf-sound : (b : Box) (v : ℕ) → legal b ≡ true → gustPasses (record { tenths = v }) ≡ true → leafEntryStands (leafEntry b v) ≡ true
@@ -42,8 +43,10 @@ unfolding records flatMap
 leaf-records ps [] = refl
 leaf-records ps (e ∷ es) = ap (λ (l : List Entry). e ∷ l) (leaf-records ps es)
 
-module _ (v : ℕ) (ps : List Page) (p : ℕ) (es : List Entry) (s : Sought) (k : ℕ) (r : Ready 0 ps p es) (fresh : s .isCovered ≡ false)
-    (lawful : legal (s .box) ≡ true) (passes : gustPasses (record { tenths = v }) ≡ true) (room : 1 ≤ freeCount ps) (most : length es ≤ pageEntries) where
+module _ (v : ℕ) (ps : List Page) (p : ℕ) (s : Sought) (k : ℕ) (h : Before 0 v ps p s) where
+  es : List Entry
+  es = inUse (page ps p)
+
   t : Sought
   t = scan 0 v es s
 
@@ -51,20 +54,20 @@ module _ (v : ℕ) (ps : List Page) (p : ℕ) (es : List Entry) (s : Sought) (k 
   new = leafEntry (t .box) v
 
   scanned : Scanned v (λ q. bests ps q 0 es) s t
-  unfolding t
-  scanned = scan-keeps ps 0 v es s (r .sound) fresh
+  unfolding t es
+  scanned = scan-keeps ps 0 v (inUse (page ps p)) s (h .stands .each) (h .fresh)
 
   more : List Entry
   more = es ++ (new ∷ [])
 
   ready : Ready 0 ps p more
-  unfolding more new
+  unfolding more new es
   ready =
       record {
-        inside = r .inside;
-        busy = r .busy;
-        apart = λ q. let a = r .apart q in let b = leaf-load ps more (only q) in omega arith;
-        sound = each-append (Sound ps 0) es (new ∷ []) (r .sound) (leaf-sound (t .box) v (scanned .lawful lawful) passes, tt);
+        inside = h .stands .inside;
+        busy = standing ps 0 p (Sound ps 0) (h .stands);
+        apart = λ q. let a = h .apart q in let b = leaf-load ps more (only q) in omega arith;
+        sound = each-append (Sound ps 0) es (new ∷ []) (h .stands .each) (leaf-sound (t .box) v (scanned .lawful (h .lawful)) (h .passes), tt);
         some = omega (arith, length-append es (new ∷ []));
       }
 
@@ -72,8 +75,8 @@ module _ (v : ℕ) (ps : List Page) (p : ℕ) (es : List Entry) (s : Sought) (k 
   w = settle ps p 1 more t k
 
   settled : Settled 0 ps p more w
-  unfolding w
-  settled = settle-law 0 ps p more ready (unfold more in omega (arith, length-append es (new ∷ []))) room t k
+  unfolding w es
+  settled = settle-law 0 ps p more ready (unfold more in let m = h .stands .most in omega (arith, length-append es (new ∷ []))) (h .room) t k
 
   leaf-same : (g : Entry → ℕ) → weigh g (allRecords ps 0 more) ≡ weigh g (allRecords ps 0 es) + g new
   unfolding more weigh
@@ -88,19 +91,18 @@ module _ (v : ℕ) (ps : List Page) (p : ℕ) (es : List Entry) (s : Sought) (k 
       let d = best-one (hit q) new in
       omega arith
 
-  pub append-law : scan 0 v es s .isCovered ≡ false → Came 0 v ps p es s k (append v ps p 1 es (scan 0 v es s) k)
-  unfolding append w t more new weigh
-  append-law o =
+  appended : t .isCovered ≡ false → CameFrom 0 v ps p s k w
+  unfolding w new es weigh
+  appended o =
       let c = settled in
       let d = settle-hands-on ps p 1 more t k in
-      let m = c .moved in
       record {
         handles = c .handles;
         shape = c .shape;
         sound = c .sound;
         moved =
-            again ps (w .pages) (λ h. h p + loads ps 0 more h) (loads (w .pages) 1 (c .handles)) 1 m (λ h. h p + loads ps 0 es h) (loads (w .pages) 1 (c .handles))
-            (λ h. let a = leaf-load ps more h in let b = leaf-load ps es h in omega arith) (λ h. refl);
+            again ps (w .pages) (λ g. g p + loads ps 0 more g) (loads (w .pages) 1 (c .handles)) 1 (c .moved) (rootLoad ps 0 p) (loads (w .pages) 1 (c .handles))
+            (λ g. let a = leaf-load ps more g in let b = leaf-load ps es g in omega arith) (λ g. refl);
         gone = [];
         counted = let x = d .struck in omega arith;
         inside = subst (λ (y : Sought). covers (s .box) (y .box) ≡ true) (sym (d .sought)) (scanned .inside);
@@ -116,3 +118,8 @@ module _ (v : ℕ) (ps : List Page) (p : ℕ) (es : List Entry) (s : Sought) (k 
             let f = scanned .kept q l in
             omega arith;
       }
+
+  pub append-law : scan 0 v (inUse (page ps p)) s .isCovered ≡ false → CameFrom 0 v ps p s k (append v ps p (scan 0 v (inUse (page ps p)) s) k)
+  unfolding append w t more new es
+  append-law o =
+      subst (λ (l : ℕ). CameFrom 0 v ps p s k (settle ps p l more t k)) (sym (level-of ps 0 p (Sound ps 0) (h .stands))) (appended o)

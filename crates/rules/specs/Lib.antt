@@ -5,6 +5,8 @@ pub mod Recording
 pub mod Record
 pub mod Examples
 pub mod RecordLaws
+pub mod NeverEmpty
+pub mod OldRuleTwo
 pub mod EmptyBook
 pub mod Lists
 pub mod Score

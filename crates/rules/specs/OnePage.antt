@@ -98,16 +98,19 @@ all-struck b v c l es some p =
     (covering-smallest es b some (λ i h. at i h .0))
     (subst (λ (m : Entry). leb (m .gust) v ≡ true) (g .there) (at (g .place) (g .within) .1))
 
--- Rule 2's second half never happens: a child that was chosen was not struck, so b, as cut, does not strike all its entries.
+-- An exact entry all of whose child's entries are struck is struck itself.
+pub struck-above : (ps : List Page) (n v : ℕ) (b : Box) (e : Entry) → Sound ps (suc n) e → length (rest b v (inUse (page ps (e .child)))) ≡ 0 → isStruck b v e ≡ true
+struck-above ps n v b e h p =
+    let x = all-struck b v (e .child) (suc n) (inUse (page ps (e .child))) (h .some) (none-left (isStruck b v) (inUse (page ps (e .child))) p) in
+    subst (λ (m : Entry). isStruck b v m ≡ true) (sym (exact-entries ps n (Sound ps n) e h)) x
+
+-- So where a box does not strike the entry, neither it nor a part of it strikes all entries of the child.
 pub never-empty : (ps : List Page) (n v : ℕ) (a b : Box) (e : Entry) → Sound ps (suc n) e → isStruck a v e ≡ false → covers a b ≡ true → 1 ≤ length (rest b v (inUse (page ps (e .child))))
 never-empty ps n v a b e h f c = by-length (length (rest b v (inUse (page ps (e .child))))) refl
   where
     by-length : (k : ℕ) → length (rest b v (inUse (page ps (e .child)))) ≡ k → 1 ≤ k
     by-length (suc k) p = omega arith
-    by-length zero p =
-        let x = all-struck b v (e .child) (suc n) (inUse (page ps (e .child))) (h .some) (none-left (isStruck b v) (inUse (page ps (e .child))) p) in
-        let y : isStruck b v e ≡ true = subst (λ (m : Entry). isStruck b v m ≡ true) (sym (exact-entries ps n (Sound ps n) e h)) x in
-        absurd (false≢true (sym f ∙ struck-wider a b v e c y))
+    by-length zero p = absurd (false≢true (sym f ∙ struck-wider a b v e c (struck-above ps n v b e h p)))
 
 -- what is left was not struck
 pub rest-unstruck : (b : Box) (v : ℕ) (es : List Entry) → Each (λ e. isStruck b v e ≡ false) (rest b v es)

@@ -17,10 +17,9 @@ use Rattle.wellformed.specs.Counting.{sumOf, sum-flat, Each as EachPage}
 use Rattle.wellformed.specs.Flat.{each-append}
 use Rattle.wellformed.specs.WellFormed.{page, childOf, children, walk, leafEntries}
 use Rattle.rules.specs.CameLaws.{allRecords}
-use Rattle.rules.specs.Frame.{loads}
+use Rattle.rules.specs.Frame.{loads, rootLoad, rootRecords}
 use Rattle.rules.specs.LeafLaws.{leaf-records, leaf-load}
 use Rattle.rules.specs.Moves.{only}
-use Rattle.rules.specs.RootLaws.{rootLoad, rootRecords}
 use Rattle.rules.specs.Tree.{load, records, Stands, Sound, level-of}
 
 -- a leaf has no children and holds its entries; an index page has its entries' children and holds none

@@ -21,13 +21,11 @@ use Rattle.pages.specs.declared.Small.{Small}
 use Rattle.split.specs.SplitLaws.{weigh}
 use Rattle.wellformed.specs.Parts.{parts, whole}
 use Rattle.wellformed.specs.WellFormed.{page, heldRecords, wellFormed, mostAccepted}
-use Rattle.rules.specs.Book.{Book, saysCovered, recorded-law, before}
+use Rattle.rules.specs.Book.{Book, saysCovered, recorded-law}
 use Rattle.rules.specs.CameLaws.{keptIf}
-use Rattle.rules.specs.FromRoot.{from-root-stops, never-again}
 use Rattle.rules.specs.FromWellFormed.{Conditions, book}
 use Rattle.rules.specs.Record.{firstOf, refusal, answered, refused, recordInto}
-use Rattle.rules.specs.Recording.{Recorded, recorded, walkDown, fromRoot}
-use Rattle.rules.specs.Scan.{handedIn}
+use Rattle.rules.specs.Recording.{Recorded, recorded}
 use Rattle.rules.specs.StrikeLaws.{standing}
 use Rattle.rules.specs.ToWellFormed.{book-held, book-eight, conditions}
 use Rattle.rules.specs.Tree.{Sound}
@@ -151,17 +149,6 @@ record-law t s b v a =
       counts = let x = l .after .counts in let y = ap length n in omega arith;
       spent = l .spent;
     }
-
--- Rule 2's second half never happens: the record does not start again at the root.
-pub starts-once : (t : List ℕ) (s : Small) (b : Box) (v : ℕ) → Accepted t s b v
-    → fromRoot (length (pagesOf t)) (s .height - 1) v (pagesOf t) (s .root) (handedIn b) ≡ walkDown (s .height - 1) v (pagesOf t) (s .root) (handedIn b)
-starts-once t s b v a =
-    let ps = pagesOf t in
-    let k = book ps s (conditions-of t s (a .sound)) in
-    let e : s .height - 1 ≡ k .levels = let h = k .height in omega arith in
-    subst (λ (n : ℕ). fromRoot (length ps) n v ps (s .root) (handedIn b) ≡ walkDown n v ps (s .root) (handedIn b)) (sym e)
-    (from-root-stops (length ps) (k .levels) v ps (s .root) (handedIn b)
-    (never-again (k .levels) v ps (s .root) (handedIn b) (before ps s k b v (a .lawful) (a .passes) (a .unspent) (a .room)) (let h = k .height in let r = a .room in omega arith)))
 
 -- the struck count and the small record's numbers stay at most 1,000,000
 pub record Few (r : Recorded) : Type 0 where

@@ -1,5 +1,5 @@
 -- Document 01, "Recording": the walk, from the root down and back, and what is done at the root.
--- A page with n levels under it is a leaf if n is 0. Each step loads a page, decides, stores, goes down one level, and comes back to load it again.
+-- A page with n levels under it is a leaf if n is 0. The walk reads a page from the pages as they are, strikes there, goes down one level, and comes back to read it again.
 use Prim.Native.Nat.{ℕ, zero, suc, _+_, _-_}
 use mathlib.Core.Bool.{Bool, true, false, _&&_, cond}
 use mathlib.Core.List.{List, [], _∷_, _++_}
@@ -15,9 +15,9 @@ use Rattle.pages.specs.declared.FreePage.{FreePage}
 use Rattle.pages.specs.declared.FreePage.the-variants.{At, NoPage}
 use Rattle.pages.specs.declared.Page.{Page}
 use Rattle.pages.specs.declared.Small.{Small}
-use Rattle.split.specs.Split.{lessOrTie, halves, pageFrom, without}
+use Rattle.split.specs.Split.{lessOrTie, halves, pageFrom}
 use Rattle.wellformed.specs.WellFormed.{page}
-use Rattle.rules.specs.Strike.{rest, strike}
+use Rattle.rules.specs.Strike.{strikePage}
 use Rattle.rules.specs.Scan.{Sought, handedIn, scan}
 
 -- Rule 4: the entry whose box grows least in size to cover b; ties: smaller size, then lower place. Which of the places 0 to n:
@@ -38,12 +38,10 @@ choose b es = leastGrown b es (length es - 1)
 abbrev pub leafEntry : Box → ℕ → Entry
 leafEntry b v = record { place = b; gust = v; weakest = 0; child = 0; strongest = zeroBox; union = zeroBox }
 
--- What became of a page: it stands; it was split, and this page took the second group; it was left with no entry (rule 2); or the record starts again at the root (rule 2).
+-- What became of a page: it stands, or it was split, and this page took the second group.
 pub data Became : Type 0 where
   stands : Became
   split : ℕ → Became
-  emptied : Became
-  again : Became
 
 -- What a page's walk hands back: the pages, what became of its page, what was recorded, and how many leaf records were struck.
 pub record Walked : Type 0 where
@@ -52,97 +50,80 @@ pub record Walked : Type 0 where
   pub sought : Sought
   pub struck : ℕ
 
--- A walk goes from the pages, a page's number and what is sought. A later step at a page has besides its level, the entries that stand, and the records struck so far.
+-- A walk goes on from the pages, a page's number, what is sought, and the records struck so far.
 abbrev pub Walk : Type 0
-Walk = List Page → ℕ → Sought → Walked
+Walk = List Page → ℕ → Sought → ℕ → Walked
 
-abbrev pub Next : Type 0
-Next = List Page → ℕ → ℕ → List Entry → Sought → ℕ → Walked
+-- Settling a page: the pages, its number, and the level and entries that it is to have; what is sought and the records struck are handed on.
+abbrev pub Settle : Type 0
+Settle = List Page → ℕ → ℕ → List Entry → Sought → ℕ → Walked
 
 -- Nine entries make a split: the first group stays in the page, the second takes the lowest free page. (Refusal 6 sees to it that there is one.)
 abbrev pub intoPage : FreePage → List Page → ℕ → List Entry → Sought → ℕ → Walked
 intoPage (At q) ps level es s k = record { pages = set ps q (pageFrom level es); became = split q; sought = s; struck = k }
 intoPage NoPage ps level es s k = record { pages = ps; became = stands; sought = s; struck = k }
 
-unfoldable pub splitPage : Next
+unfoldable pub splitPage : Settle
 splitPage ps p level es s k =
     let h = halves es in
     let qs = set ps p (pageFrom level (h .first)) in
     intoPage (lowestFree qs) qs level (h .second) s k
 
-abbrev pub store : List Page → ℕ → ℕ → List Entry → Became → Sought → ℕ → Walked
-store ps p level es o s k = record { pages = set ps p (pageFrom level es); became = o; sought = s; struck = k }
-
-abbrev pub settleBy : Bool → Next
-settleBy true ps p level es s k = store ps p level es stands s k
+abbrev pub settleBy : Bool → Settle
+settleBy true ps p level es s k = record { pages = set ps p (pageFrom level es); became = stands; sought = s; struck = k }
 settleBy false ps p level es s k = splitPage ps p level es s k
 
-unfoldable pub settle : Next
+unfoldable pub settle : Settle
 settle ps p level es s k = settleBy (leb (length es) pageEntries) ps p level es s k
 
 -- Coming back to page p from the child at place i: its entry is made exact, before the page is split.
 unfoldable pub exactAt : List Page → List Entry → ℕ → List Entry
 exactAt ps es i = let c = getD es i zeroEntry .child in set es i (summaryOf c (page ps c))
 
--- A child that was split has its second group appended. A child left with no entry is freed and its entry taken away (rule 2), and the record starts again at the root.
+-- A child that was split has its second group appended.
 abbrev pub comeBackBy : Became → List Page → ℕ → ℕ → List Entry → ℕ → Sought → ℕ → Walked
 comeBackBy stands ps p level es i s k = settle ps p level (exactAt ps es i) s k
 comeBackBy (split q) ps p level es i s k = settle ps p level (exactAt ps es i ++ (summaryOf q (page ps q) ∷ [])) s k
-comeBackBy emptied ps p level es i s k = store (set ps (getD es i zeroEntry .child) freePage) p level (without i es) again s k
-comeBackBy again ps p level es i s k = store ps p level (exactAt ps es i) again s k
 
-unfoldable pub comeBack : ℕ → ℕ → ℕ → Walked → Walked
-comeBack p i k w = let x = page (w .pages) p in comeBackBy (w .became) (w .pages) p (x .level) (inUse x) i (w .sought) (k + w .struck)
+unfoldable pub comeBack : ℕ → ℕ → Walked → Walked
+comeBack p i w = let x = page (w .pages) p in comeBackBy (w .became) (w .pages) p (x .level) (inUse x) i (w .sought) (w .struck)
 
--- Rule 4, with b as cut: at a leaf append b with v; at an index page store it and go down to the chosen child, by the walk one level lower.
-unfoldable pub append : ℕ → Next
-append v ps p level es s k = settle ps p level (es ++ (leafEntry (s .box) v ∷ [])) s k
+-- Rule 4, with b as cut: at a leaf append b with v.
+unfoldable pub append : ℕ → Walk
+append v ps p s k = let x = page ps p in settle ps p (x .level) (inUse x ++ (leafEntry (s .box) v ∷ [])) s k
 
-unfoldable pub goDown : Walk → Next
-goDown lower ps p level es s k =
+-- At an index page go to the chosen child, with n levels under it: rule 1 there, then the walk one level lower.
+unfoldable pub goDown : ℕ → ℕ → Walk → Walk
+goDown n v lower ps p s k =
+    let es = inUse (page ps p) in
     let i = choose (s .box) es in
-    comeBack p i k (lower (set ps p (pageFrom level es)) (getD es i zeroEntry .child) s)
+    let c = getD es i zeroEntry .child in
+    let x = strikePage n (s .box) v ps c in
+    comeBack p i (lower (x .pages) c s (k + x .records))
 
 -- Covered ends the walk; the strikes stand.
-abbrev pub unlessCovered : Bool → Next → Next
-unlessCovered true next ps p level es s k = store ps p level es stands s k
-unlessCovered false next ps p level es s k = next ps p level es s k
+abbrev pub unlessCovered : Bool → Walk → Walk
+unlessCovered true next ps p s k = record { pages = ps; became = stands; sought = s; struck = k }
+unlessCovered false next ps p s k = next ps p s k
 
--- Rule 2: a page left with no entry. Otherwise rules 3 and 4.
-unfoldable pub goOn : ℕ → ℕ → Next → Next
-goOn n v next ps p level [] s k = store ps p level [] emptied s k
-goOn n v next ps p level (e ∷ es) s k = let t = scan n v (e ∷ es) s in unlessCovered (t .isCovered) next ps p level (e ∷ es) t k
-
--- The walk at page p: rule 1, then as above.
-unfoldable pub atPage : ℕ → ℕ → Next → Walk
-atPage n v next ps p s =
-    let x = page ps p in
-    let t = strike n (s .box) v ps (inUse x) in
-    goOn n v next (t .pages) p (x .level) (rest (s .box) v (inUse x)) s (t .records)
+-- Rule 3 at page p, whose strikes are done; then rule 4.
+unfoldable pub goOn : ℕ → ℕ → Walk → Walk
+goOn n v next ps p s k = let t = scan n v (inUse (page ps p)) s in unlessCovered (t .isCovered) next ps p t k
 
 unfoldable pub walkDown : ℕ → ℕ → Walk
-walkDown zero v ps p s = atPage zero v (append v) ps p s
-walkDown (suc n) v ps p s = atPage (suc n) v (goDown (walkDown n v)) ps p s
+walkDown zero v ps p s k = goOn zero v (append v) ps p s k
+walkDown (suc n) v ps p s k = goOn (suc n) v (goDown n v (walkDown n v)) ps p s k
 
--- Rule 2 at the root r: an index root left with no entry becomes, in its place, an empty leaf root of height 1; a leaf root may stand empty. Nothing there is a candidate, so b is appended.
-abbrev pub inEmptyRoot : List Page → ℕ → ℕ → Sought → List Page
-inEmptyRoot ps r v s = set ps r (pageFrom 1 (leafEntry (s .box) v ∷ []))
+-- Rule 2, of the entries left at the root r: an index root left with no entry becomes, in its place, an empty leaf root of height 1; a leaf root may stand empty.
+abbrev pub leafIfEmpty : List Entry → ℕ → ℕ → Walk
+leafIfEmpty [] n v ps r s k = walkDown zero v (set ps r (pageFrom 1 [])) r s k
+leafIfEmpty (e ∷ es) n v ps r s k = walkDown n v ps r s k
 
--- Rule 2: the record starts again at the root, with b as already cut; at most `fuel` times, since each time a page was freed.
-abbrev pub startAgainBy : Became → (Walked → Walked) → Walked → Walked
-startAgainBy stands onward w = w
-startAgainBy (split q) onward w = w
-startAgainBy emptied onward w = w
-startAgainBy again onward w = onward w
-
-abbrev pub plusStruck : ℕ → Walked → Walked
-plusStruck k w = record { pages = w .pages; became = w .became; sought = w .sought; struck = k + w .struck }
-
-unfoldable pub fromRoot : ℕ → ℕ → ℕ → Walk
-fromRoot zero n v ps r s = walkDown n v ps r s
-fromRoot (suc fuel) n v ps r s =
-    let w = walkDown n v ps r s in
-    startAgainBy (w .became) (λ x. plusStruck (x .struck) (fromRoot fuel n v (x .pages) r (x .sought))) w
+-- From the root r, with n levels under it: rule 1, rule 2, and on.
+unfoldable pub fromRoot : ℕ → ℕ → List Page → ℕ → Sought → Walked
+fromRoot n v ps r s =
+    let x = strikePage n (s .box) v ps r in
+    leafIfEmpty (inUse (page (x .pages) r)) n v (x .pages) r s (x .records)
 
 -- The pages and the root.
 pub record Rooted : Type 0 where
@@ -154,11 +135,9 @@ abbrev pub newRootAt : FreePage → List Page → ℕ → ℕ → Rooted
 newRootAt (At t) ps r q = record { pages = set ps t (pageFrom (page ps r .level + 1) (summaryOf r (page ps r) ∷ summaryOf q (page ps q) ∷ [])); root = t }
 newRootAt NoPage ps r q = record { pages = ps; root = r }
 
-abbrev pub putRootRight : Became → List Page → ℕ → ℕ → Sought → Rooted
-putRootRight stands ps r v s = record { pages = ps; root = r }
-putRootRight (split q) ps r v s = newRootAt (lowestFree ps) ps r q
-putRootRight emptied ps r v s = record { pages = inEmptyRoot ps r v s; root = r }
-putRootRight again ps r v s = record { pages = ps; root = r }
+abbrev pub putRootRight : Became → List Page → ℕ → Rooted
+putRootRight stands ps r = record { pages = ps; root = r }
+putRootRight (split q) ps r = newRootAt (lowestFree ps) ps r q
 
 -- Last, while the root is an index page with one entry, its child becomes the root and the old root is freed; at most n times.
 abbrev pub oneEntry : Page → Bool
@@ -199,10 +178,13 @@ smallAfter s w r =
       covered = s .covered + cond (w .sought .isCovered) 1 0;
     }
 
--- Recording box b with gust v on a sound book.
-unfoldable pub recorded : List Page → Small → Box → ℕ → Recorded
-recorded ps s b v =
-    let w = fromRoot (length ps) (s .height - 1) v ps (s .root) (handedIn b) in
-    let t = putRootRight (w .became) (w .pages) (s .root) v (w .sought) in
+-- After the walk w the root is put right and collapses, and the record is counted.
+abbrev pub putRight : Small → Walked → Recorded
+putRight s w =
+    let t = putRootRight (w .became) (w .pages) (s .root) in
     let r = collapse (s .height) (t .pages) (t .root) in
     record { answer = record { outcome = outcomeOf (w .sought); struck = w .struck }; pages = r .pages; small = smallAfter s w r }
+
+-- Recording box b with gust v on a sound book.
+unfoldable pub recorded : List Page → Small → Box → ℕ → Recorded
+recorded ps s b v = putRight s (fromRoot (s .height - 1) v ps (s .root) (handedIn b))

@@ -15,9 +15,9 @@ use Rattle.pages.specs.declared.Page.{Page}
 use Rattle.split.specs.Split.{pageFrom}
 use Rattle.split.specs.SplitLaws.{weigh, Each, weigh-append, page-from-in-use}
 use Rattle.wellformed.specs.WellFormed.{page}
-use Rattle.rules.specs.Frame.{loads, Unchanged, loads-unchanged, records-unchanged, sound-unchanged, frame}
+use Rattle.rules.specs.Frame.{loads, rootLoad, rootRecords, Unchanged, loads-unchanged, records-unchanged, sound-unchanged, frame}
 use Rattle.rules.specs.Moves.{Pages, Apart, Moved, beside, again, write}
-use Rattle.rules.specs.Recording.{Became, Became.stands, Became.split, Became.emptied, Became.again as startAgain, Walked}
+use Rattle.rules.specs.Recording.{Became, Became.stands, Became.split, Walked}
 use Rattle.rules.specs.Scan.{Sought}
 use Rattle.rules.specs.Tree.{load, records, Stands, Sound}
 
@@ -37,12 +37,28 @@ pub handle-records : (ps : List Page) (n p : ℕ) → records ps (suc n) (handle
 unfolding records summaryOf summary
 handle-records ps n p = refl
 
+-- A page's own entry alone stands for the tree at it.
+module _ (ps : List Page) (n p : ℕ) where
+  pub one-load : (h : ℕ → ℕ) → loads ps (suc n) (handle ps p ∷ []) h ≡ rootLoad ps n p h
+  unfolding weigh
+  one-load h = let a = handle-load ps n p h in omega arith
+
+  pub one-records : (g : Entry → ℕ) → weigh g (flatMap (records ps (suc n)) (handle ps p ∷ [])) ≡ weigh g (rootRecords ps n p)
+  unfolding weigh flatMap
+  one-records g = let a = ap (weigh g) (handle-records ps n p) in omega (arith, weigh-append g (records ps (suc n) (handle ps p)) [])
+
+  pub record Alone : Type 0 where
+    pub tree : Stands ps n p (Sound ps n)
+    pub some : 1 ≤ length (inUse (page ps p))
+
+  pub alone : Sound ps (suc n) (handle ps p) → Alone
+  unfolding summaryOf summary
+  alone h = record { tree = h .stands; some = h .some }
+
 -- The entries for the parent, by what became of page p.
 abbrev pub Handles : List Page → ℕ → Became → List Entry → Type 0
 Handles ps p stands hs = hs ≡ handle ps p ∷ []
 Handles ps p (split q) hs = hs ≡ handle ps p ∷ handle ps q ∷ []
-Handles ps p emptied hs = ⊥
-Handles ps p startAgain hs = ⊥
 
 pub record Settled (n : ℕ) (ps : List Page) (p : ℕ) (es : List Entry) (w : Walked) : Type 0 where
   pub handles : List Entry
@@ -66,7 +82,7 @@ in-use-not-free n es = ne-eqb (suc n) 0 (λ e. omega arith)
 -- a page just written shows its entries
 module _ (n : ℕ) (ps : List Page) (p : ℕ) (es : List Entry) (inside : p < length ps) (own : Pages) (k : ℕ)
     (m : Moved ps (set ps p (pageFrom (suc n) es)) own (λ h. h p) k) (apart : Apart ps (λ h. own h + loads ps n es h))
-    (sound : Each (Sound ps n) es) (some : 1 ≤ length es) (most : length es ≤ pageEntries) where
+    (sound : Each (Sound ps n) es) (most : length es ≤ pageEntries) where
   qs : List Page
   qs = set ps p (pageFrom (suc n) es)
 
@@ -88,8 +104,8 @@ module _ (n : ℕ) (ps : List Page) (p : ℕ) (es : List Entry) (inside : p < le
         each = rw put-entries (sound-unchanged ps (set ps p (pageFrom (suc n) es)) n es put-unchanged);
       }
 
-  pub put-sound : Sound (set ps p (pageFrom (suc n) es)) (suc n) (handle (set ps p (pageFrom (suc n) es)) p)
-  put-sound = handle-sound (set ps p (pageFrom (suc n) es)) n p put-stands (rw put-entries some)
+  pub put-sound : 1 ≤ length es → Sound (set ps p (pageFrom (suc n) es)) (suc n) (handle (set ps p (pageFrom (suc n) es)) p)
+  put-sound some = handle-sound (set ps p (pageFrom (suc n) es)) n p put-stands (rw put-entries some)
 
   pub put-load : (h : ℕ → ℕ) → load (set ps p (pageFrom (suc n) es)) h (suc n) (handle (set ps p (pageFrom (suc n) es)) p) ≡ h p + loads ps n es h
   put-load h =
@@ -114,15 +130,15 @@ module _ (n : ℕ) (ps : List Page) (p : ℕ) (es : List Entry) (r : Ready n ps 
       let qs = set ps p (pageFrom (suc n) es) in
       let m = written most in
       let own : Pages = λ h. h p in
-      let l = put-load n ps p es (r .inside) own 0 m (r .apart) (r .sound) (r .some) most in
-      let c = put-records n ps p es (r .inside) own 0 m (r .apart) (r .sound) (r .some) most in
+      let l = put-load n ps p es (r .inside) own 0 m (r .apart) (r .sound) most in
+      let c = put-records n ps p es (r .inside) own 0 m (r .apart) (r .sound) most in
       let b = beside ps qs own own 0 m (loads ps n es) in
       let a : Moved ps qs (λ h. h p + loads ps n es h) (loads qs (suc n) (handle qs p ∷ [])) 0 =
       again ps qs (λ h. h p + loads ps n es h) (λ h. h p + loads ps n es h) 0 b (λ h. h p + loads ps n es h) (loads qs (suc n) (handle qs p ∷ [])) (λ h. refl) (λ h. let x = l h in omega arith) in
       record {
         handles = handle qs p ∷ [];
         shape = refl;
-        sound = (put-sound n ps p es (r .inside) own 0 m (r .apart) (r .sound) (r .some) most, tt);
+        sound = (put-sound n ps p es (r .inside) own 0 m (r .apart) (r .sound) most (r .some), tt);
         moved = record { same-length = a .same-length; kept = a .kept; sums = a .sums; clean = a .clean; spent = let x = a .spent in omega arith };
         same-records = λ g. let y = ap (weigh g) c in omega (arith, weigh-append g (records qs (suc n) (handle qs p)) []);
       }

@@ -76,15 +76,15 @@ module _ (n : ℕ) (ps : List Page) (p : ℕ) (es : List Entry) (r : Ready n ps 
 
   first-sound : Sound qs (suc n) e₁
   unfolding qs e₁ own
-  first-sound = put-sound n ps p first (r .inside) own 0 first-write first-apart (sounds .0) (sizes .first-some) (sizes .first-most)
+  first-sound = put-sound n ps p first (r .inside) own 0 first-write first-apart (sounds .0) (sizes .first-most) (sizes .first-some)
 
   first-load : (h : ℕ → ℕ) → load qs h (suc n) e₁ ≡ h p + loads ps n first h
   unfolding qs e₁ own
-  first-load = put-load n ps p first (r .inside) own 0 first-write first-apart (sounds .0) (sizes .first-some) (sizes .first-most)
+  first-load = put-load n ps p first (r .inside) own 0 first-write first-apart (sounds .0) (sizes .first-most)
 
   first-records : records qs (suc n) e₁ ≡ flatMap (records ps n) first
   unfolding qs e₁ own
-  first-records = put-records n ps p first (r .inside) own 0 first-write first-apart (sounds .0) (sizes .first-some) (sizes .first-most)
+  first-records = put-records n ps p first (r .inside) own 0 first-write first-apart (sounds .0) (sizes .first-most)
 
   second-unchanged : Each (Unchanged ps qs n) second
   unfolding own
@@ -124,15 +124,15 @@ module _ (n : ℕ) (ps : List Page) (p : ℕ) (es : List Entry) (r : Ready n ps 
 
     second-sound : Sound rs (suc n) e₂
     unfolding rs e₂
-    second-sound = put-sound n qs q second (low .within) nothing 1 second-take second-apart second-sounds (sizes .second-some) (sizes .second-most)
+    second-sound = put-sound n qs q second (low .within) nothing 1 second-take second-apart second-sounds (sizes .second-most) (sizes .second-some)
 
     second-load : (h : ℕ → ℕ) → load rs h (suc n) e₂ ≡ h q + loads qs n second h
     unfolding rs e₂
-    second-load = put-load n qs q second (low .within) nothing 1 second-take second-apart second-sounds (sizes .second-some) (sizes .second-most)
+    second-load = put-load n qs q second (low .within) nothing 1 second-take second-apart second-sounds (sizes .second-most)
 
     second-records : records rs (suc n) e₂ ≡ flatMap (records qs n) second
     unfolding rs e₂
-    second-records = put-records n qs q second (low .within) nothing 1 second-take second-apart second-sounds (sizes .second-some) (sizes .second-most)
+    second-records = put-records n qs q second (low .within) nothing 1 second-take second-apart second-sounds (sizes .second-most)
 
     first-kept : Unchanged qs rs (suc n) e₁
     unfolding weigh between

@@ -10,6 +10,7 @@ use Rattle.pages.specs.Layout.{freePage}
 use Rattle.pages.specs.Summary.{inUse}
 use Rattle.pages.specs.declared.Entry.{Entry}
 use Rattle.pages.specs.declared.Page.{Page}
+use Rattle.split.specs.Split.{pageFrom}
 use Rattle.wellformed.specs.WellFormed.{page}
 
 abbrev pub isStruck : Box → ℕ → Entry → Bool
@@ -53,3 +54,10 @@ strikeOne (suc n) ps e =
 -- Of a page with n levels under it, the struck entries one after another.
 unfoldable pub strike : ℕ → Box → ℕ → List Page → List Entry → Struck
 strike n b v ps es = strikeAll (strikeOne n) ps (struckOf b v es)
+
+-- Rule 1 at page p, with n levels under it: its struck entries one after another, and the rest of it closes up.
+abbrev pub strikePage : ℕ → Box → ℕ → List Page → ℕ → Struck
+strikePage n b v ps p =
+    let x = page ps p in
+    let s = strike n b v ps (inUse x) in
+    record { pages = set (s .pages) p (pageFrom (x .level) (rest b v (inUse x))); records = s .records }

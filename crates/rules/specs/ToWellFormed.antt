@@ -26,10 +26,10 @@ use Rattle.wellformed.specs.WellFormed.{times, page, childOf, children, walk, r
 use Rattle.rules.specs.Book.{Book}
 use Rattle.rules.specs.CollapseLaws.{count-is}
 use Rattle.rules.specs.FromWellFormed.{Conditions}
+use Rattle.rules.specs.Frame.{rootLoad, rootRecords}
 use Rattle.rules.specs.Lists.{each-imp}
 use Rattle.rules.specs.Moves.{only, free, free-only}
 use Rattle.rules.specs.ReachLaws.{leaf-children, index-children, held-at, sum-at, InTree, in-entries}
-use Rattle.rules.specs.RootLaws.{rootLoad, rootRecords}
 use Rattle.rules.specs.StrikeLaws.{standing}
 use Rattle.rules.specs.Tree.{Stands, Sound, level-of}
 use Rattle.rules.specs.WordFacts.{same-words-self, zeros-zero, free-zero, each-every}

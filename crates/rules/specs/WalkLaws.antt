@@ -1,85 +1,51 @@
 -- The law of the whole walk, by induction on the levels.
 use mathlib.Core.Bool.{Bool, true, false}
-use mathlib.Core.List.{List, [], _∷_}
-use mathlib.Core.Path.{_≡_, refl, sym, subst}
-use Prim.Native.Nat.{ℕ, zero, suc, _≤_}
+use mathlib.Core.List.{List}
+use mathlib.Core.Path.{_≡_, refl}
+use Prim.Native.Nat.{ℕ, zero, suc, _+_, _≤_}
 use native.Mathlib.Omega.{arith}
-use Rattle.pages.specs.Free.{freeCount}
-use Rattle.pages.specs.Layout.{zeroEntry}
-use Rattle.split.specs.Split.{pageFrom}
-use lib.ListN.{getD, set, length}
+use lib.ListN.{length}
 use Rattle.pages.specs.Summary.{inUse}
-use Rattle.pages.specs.declared.Entry.{Entry}
 use Rattle.pages.specs.declared.Page.{Page}
 use Rattle.wellformed.specs.WellFormed.{page}
-use Rattle.rules.specs.CameLaws.{Came, Before, covered-law, strike-then, after-strike, ready-left, left-most}
-use Rattle.rules.specs.IndexLaws.{LowerLaw, go-down-law, down-before, down-not-empty, found-again}
+use Rattle.rules.specs.CameLaws.{CameFrom, Before, Begun, covered-law, strike-begun}
+use Rattle.rules.specs.IndexLaws.{LowerLaw, chosen, go-down-law, down-before, down-not-empty, found-again}
 use Rattle.rules.specs.LeafLaws.{append-law}
-use Rattle.rules.specs.OnePage.{rest-unstruck}
-use Rattle.rules.specs.Recording.{choose, Next, append, goDown, unlessCovered, goOn, atPage, walkDown}
+use Rattle.rules.specs.Recording.{Walk, append, goDown, unlessCovered, goOn, walkDown}
 use Rattle.rules.specs.Scan.{Sought, scan}
-use Rattle.rules.specs.Strike.{Struck, rest, strike}
-use Rattle.rules.specs.Tree.{Sound, level-of}
+use Rattle.rules.specs.Strike.{strikePage}
 
--- rule 2 does not bite, and rules 3 and 4 give what their cases give
-on-law : (n v : ℕ) (next : Next) (ps : List Page) (p : ℕ) (es : List Entry) (s : Sought) (k : ℕ) → 1 ≤ length es
-    → ((o : Bool) → scan n v es s .isCovered ≡ o → Came n v ps p es s k (unlessCovered o next ps p (suc n) es (scan n v es s) k))
-    → Came n v ps p es s k (goOn n v next ps p (suc n) es s k)
+-- covered, or rule 4
+on-law : (n v : ℕ) (next : Walk) (ps : List Page) (p : ℕ) (s : Sought) (k : ℕ) → Before n v ps p s
+    → (scan n v (inUse (page ps p)) s .isCovered ≡ false → CameFrom n v ps p s k (next ps p (scan n v (inUse (page ps p)) s) k)) → CameFrom n v ps p s k (goOn n v next ps p s k)
 unfolding goOn
-on-law n v next ps p [] s k some f = absurd (omega arith)
-on-law n v next ps p (e ∷ es) s k some f = f (scan n v (e ∷ es) s .isCovered) refl
-
-module _ (n v : ℕ) (next : Next) (ps : List Page) (p : ℕ) (s : Sought) (h : Before n v ps p s) (some : 1 ≤ length (rest (s .box) v (inUse (page ps p)))) where
-  x : Struck
-  x = strike n (s .box) v ps (inUse (page ps p))
-
-  left : List Entry
-  left = rest (s .box) v (inUse (page ps p))
-
-  at-law : (scan n v left s .isCovered ≡ false → Came n v (x .pages) p left s (x .records) (next (x .pages) p (suc n) left (scan n v left s) (x .records)))
-      → Came n v ps p (inUse (page ps p)) s 0 (atPage n v next ps p s)
-  unfolding atPage x left
-  at-law f =
-      strike-then n v ps p s h (goOn n v next (x .pages) p (page ps p .level) left s (x .records))
-      (subst (λ (l : ℕ). Came n v (x .pages) p left s (x .records) (goOn n v next (x .pages) p l left s (x .records))) (sym (level-of ps n p (Sound ps n) (h .stands)))
-      (on-law n v next (x .pages) p left s (x .records) some by-test))
-    where
-      by-test : (o : Bool) → scan n v left s .isCovered ≡ o → Came n v (x .pages) p left s (x .records) (unlessCovered o next (x .pages) p (suc n) left (scan n v left s) (x .records))
-      by-test true o = covered-law n v (x .pages) p left s (x .records) (ready-left n v ps p s h some) (h .fresh) (left-most n v ps p s h) o
-      by-test false o = f o
+on-law n v next ps p s k h f = by-test (scan n v (inUse (page ps p)) s .isCovered) refl
+  where
+    by-test : (o : Bool) → scan n v (inUse (page ps p)) s .isCovered ≡ o → CameFrom n v ps p s k (unlessCovered o next ps p (scan n v (inUse (page ps p)) s) k)
+    by-test true o = covered-law n v ps p s k h o
+    by-test false o = f o
 
 pub walk-law : (n v : ℕ) → LowerLaw n v (walkDown n v)
-unfolding walkDown x left
-walk-law zero v ps p s h some =
-    let x = strike zero (s .box) v ps (inUse (page ps p)) in
-    at-law zero v (append v) ps p s h some
-    (append-law v (x .pages) p (rest (s .box) v (inUse (page ps p))) s (x .records) (ready-left zero v ps p s h some) (h .fresh) (h .lawful) (h .passes)
-    (let a = after-strike zero v ps p s h .spent in let b = h .room in omega arith) (left-most zero v ps p s h))
-walk-law (suc n) v ps p s h some =
-    let x = strike (suc n) (s .box) v ps (inUse (page ps p)) in
-    at-law (suc n) v (goDown (walkDown n v)) ps p s h some
-    (go-down-law n v (walkDown n v) (walk-law n v) (x .pages) p (rest (s .box) v (inUse (page ps p))) s (x .records) (ready-left (suc n) v ps p s h some) (h .fresh) (h .lawful) (h .passes)
-    (let a = after-strike (suc n) v ps p s h .spent in let b = h .room in omega arith) (left-most (suc n) v ps p s h)
-    (rest-unstruck (s .box) v (inUse (page ps p))))
+unfolding walkDown
+walk-law zero v ps p s k b some = on-law zero v (append v) ps p s k (b .before) (append-law v ps p s k (b .before))
+walk-law (suc n) v ps p s k b some =
+    on-law (suc n) v (goDown n v (walkDown n v)) ps p s k (b .before) (λ o. go-down-law n v ps p s b (some (omega arith)) o (walkDown n v) (walk-law n v) k)
 
--- A step down of the walk, as code takes it: with the strikes made and the page stored, the child is again such a page, is not left empty, and the page is found again as it was stored.
-pub record StepDown (n v : ℕ) (ps : List Page) (p : ℕ) (es : List Entry) (s : Sought) : Type 0 where
-  pub before : Before n v (set ps p (pageFrom (suc (suc n)) es)) (getD es (choose (s .box) es) zeroEntry .child) s
-  pub some : 1 ≤ length (rest (s .box) v (inUse (page (set ps p (pageFrom (suc (suc n)) es)) (getD es (choose (s .box) es) zeroEntry .child))))
-  pub found-again : page (walkDown n v (set ps p (pageFrom (suc (suc n)) es)) (getD es (choose (s .box) es) zeroEntry .child) s .pages) p ≡ pageFrom (suc (suc n)) es
+-- A step down of the walk, as code takes it: the child c stands, rule 1 leaves it an entry, and the page is found again as it was.
+pub record StepDown (n v : ℕ) (ps : List Page) (p : ℕ) (s : Sought) (k c : ℕ) : Type 0 where
+  pub before : Before n v ps c s
+  pub begun : Begun n v (strikePage n (s .box) v ps c .pages) c s
+  pub some : 1 ≤ length (inUse (page (strikePage n (s .box) v ps c .pages) c))
+  pub found-again : page (walkDown n v (strikePage n (s .box) v ps c .pages) c s (k + strikePage n (s .box) v ps c .records) .pages) p ≡ page ps p
 
-pub step-down : (n v : ℕ) (ps : List Page) (p : ℕ) (s : Sought) → Before (suc n) v ps p s → 1 ≤ length (rest (s .box) v (inUse (page ps p)))
-    → scan (suc n) v (rest (s .box) v (inUse (page ps p))) s .isCovered ≡ false
-    → StepDown n v (strike (suc n) (s .box) v ps (inUse (page ps p)) .pages) p (rest (s .box) v (inUse (page ps p))) (scan (suc n) v (rest (s .box) v (inUse (page ps p))) s)
-step-down n v ps p s h some o =
-    let x = strike (suc n) (s .box) v ps (inUse (page ps p)) in
-    let l = rest (s .box) v (inUse (page ps p)) in
-    let r = ready-left (suc n) v ps p s h some in
-    let m : suc (suc n) ≤ freeCount (x .pages) = let a = after-strike (suc n) v ps p s h .spent in let b = h .room in omega arith in
-    let k = left-most (suc n) v ps p s h in
-    let u = rest-unstruck (s .box) v (inUse (page ps p)) in
+pub step-down : (n v : ℕ) (ps : List Page) (p : ℕ) (s : Sought) (k : ℕ) → Begun (suc n) v ps p s → 1 ≤ length (inUse (page ps p)) → scan (suc n) v (inUse (page ps p)) s .isCovered ≡ false
+    → StepDown n v ps p (scan (suc n) v (inUse (page ps p)) s) k (chosen ps p (scan (suc n) v (inUse (page ps p)) s))
+step-down n v ps p s k b some o =
+    let t = scan (suc n) v (inUse (page ps p)) s in
+    let h = down-before n v ps p s b some o in
     record {
-      before = down-before n v (walkDown n v) (walk-law n v) (x .pages) p l s (x .records) r (h .fresh) (h .lawful) (h .passes) m k u o;
-      some = down-not-empty n v (walkDown n v) (walk-law n v) (x .pages) p l s (x .records) r (h .fresh) (h .lawful) (h .passes) m k u o;
-      found-again = found-again n v (walkDown n v) (walk-law n v) (x .pages) p l s (x .records) r (h .fresh) (h .lawful) (h .passes) m k u o;
+      before = h;
+      begun = strike-begun n v ps (chosen ps p t) t h;
+      some = down-not-empty n v ps p s b some o;
+      found-again = found-again n v ps p s b some o (walkDown n v) (walk-law n v) k;
     }

@@ -1,6 +1,7 @@
 // A question as a sieve: its tests on the boxes of entries where they lie, eight words at once.
-// It belongs to the pages: like them it knows where a word lies. Side by side, the tests of a box become one comparison of eight words.
+// It belongs to the pages: like them it knows the order of a box's words. Side by side, the tests of a box become one comparison of eight words.
 use ground::Box;
+use pages::Entry;
 ghost use mathlib.Core.Path.{_≡_};
 ghost use Prim.Native.Nat.{_+_, _≤_, _<_};
 ghost use lib.ListN.{length};
@@ -120,5 +121,5 @@ pub fn strongest_touches(t: &[u16], p: usize, i: usize, q: &[u16; 32]) -> bool
     requires { ⌜ InTable (now t) p × (i < pageEntries) × IsSieve (now q) ⌝ }
     ensures { λ r. ⌜ r ≡ touches (questionOf (now (q .entry))) (entryIn (now (t .entry)) p i .strongest) ⌝ }
 {
-    words_pass(t, pages::entry_start(p, i) + 9, q, 0)
+    words_pass(t, pages::entry_start(p, i) + Entry::STRONGEST, q, 0)
 }

@@ -1,6 +1,8 @@
 // The nine boxes, as words that are lent: a box is six of them.
+use crate::filling::Nine;
 use ground::Box;
 use ground::Range;
+use pages::Entry;
 ghost use mathlib.Core.Path.{_≡_};
 ghost use Prim.Native.Nat.{_-_, _^_, _≤_, _<_};
 ghost use Rattle.ground.specs.Boxes.{lengthOn, joinOn, join, size};
@@ -8,11 +10,11 @@ ghost use Rattle.split.specs.Split.{boxAt};
 ghost use Rattle.split.specs.Working.{mostSize, boxesIn};
 
 // The box at a place; where there is none all is 0.
-pub fn box_at(words: &[u16; 54], i: usize) -> Box
+pub fn box_at(words: &[u16; Nine::WORDS], i: usize) -> Box
     ensures { λ r. ⌜ r ≡ boxAt (boxesIn (now (words .entry))) i ⌝ }
 {
-    if i < 9 {
-        return pages::box_at(words, i * 6);
+    if i < Nine::ENTRIES {
+        return pages::box_at(words, i * Entry::BOX_WORDS);
     }
     let none = Range { low: 0, high: 0 };
     Box {

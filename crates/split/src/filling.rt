@@ -7,9 +7,9 @@ use pages::Entry;
 use pages::Page;
 ghost use mathlib.Core.Path.{_≡_};
 ghost use mathlib.Core.List.{[], _∷_, _++_};
-ghost use Prim.Native.Nat.{_≤_, _<_};
+ghost use Prim.Native.Nat.{_*_, _≤_, _<_};
 ghost use lib.ListN.{length, getD, take};
-ghost use Rattle.pages.specs.Layout.{zeroEntry};
+ghost use Rattle.pages.specs.Layout.{pageEntries, zeroEntry};
 ghost use Rattle.split.specs.Split.{boxesOf, entriesAt, halves, pageFrom, pagesFrom};
 ghost use Rattle.split.specs.SplitLaws.{Each};
 ghost use Rattle.split.specs.Working.{boxesIn, putBox, emptyPage};
@@ -21,7 +21,16 @@ pub struct Halves {
 }
 
 pub struct Nine {
-    pub entries: [Entry; 9],
+    pub entries: [Entry; Nine::ENTRIES],
+}
+
+impl Nine {
+    // A full page's and one more.
+    pub const ENTRIES: usize = Page::ENTRIES + 1;
+
+    pub const WORDS: usize = Nine::ENTRIES * Entry::BOX_WORDS;
+    // What is left to be placed when the seeds are.
+    pub const BUT_SEEDS: usize = Nine::ENTRIES - 2;
 }
 
 fn nine_of(page: Page, ninth: Entry) -> Nine
@@ -40,10 +49,12 @@ fn nine_of(page: Page, ninth: Entry) -> Nine
     }
 }
 
-fn put_box(words: &mut [u16; 54], k: usize, b: Box)
-    requires { ⌜ k ≤ 48 ⌝ }
-    ensures { λ r. ⌜ now (words .exit) ≡ putBox (now (words .entry)) k b ⌝ }
+// The box at place i.
+fn put_box(words: &mut [u16; Nine::WORDS], i: usize, b: Box)
+    requires { ⌜ i < 9 ⌝ }
+    ensures { λ r. ⌜ now (words .exit) ≡ putBox (now (words .entry)) (i * 6) b ⌝ }
 {
+    let k = i * Entry::BOX_WORDS;
     words[k] = b.east.low;
     words[k + 1] = b.east.high;
     words[k + 2] = b.north.low;
@@ -60,20 +71,20 @@ fn place_of(nine: Nine, i: usize) -> Box
     entry.place
 }
 
-fn words_of(nine: Nine) -> [u16; 54]
+fn words_of(nine: Nine) -> [u16; Nine::WORDS]
     requires { ⌜ length (nine .entries) ≡ 9 ⌝ }
     ensures { λ r. ⌜ boxesIn r ≡ boxesOf (nine .entries) ⌝ }
 {
-    let mut words = [0u16; 54];
+    let mut words = [0u16; Nine::WORDS];
     put_box(&mut words, 0, place_of(nine, 0));
-    put_box(&mut words, 6, place_of(nine, 1));
-    put_box(&mut words, 12, place_of(nine, 2));
-    put_box(&mut words, 18, place_of(nine, 3));
-    put_box(&mut words, 24, place_of(nine, 4));
-    put_box(&mut words, 30, place_of(nine, 5));
-    put_box(&mut words, 36, place_of(nine, 6));
-    put_box(&mut words, 42, place_of(nine, 7));
-    put_box(&mut words, 48, place_of(nine, 8));
+    put_box(&mut words, 1, place_of(nine, 1));
+    put_box(&mut words, 2, place_of(nine, 2));
+    put_box(&mut words, 3, place_of(nine, 3));
+    put_box(&mut words, 4, place_of(nine, 4));
+    put_box(&mut words, 5, place_of(nine, 5));
+    put_box(&mut words, 6, place_of(nine, 6));
+    put_box(&mut words, 7, place_of(nine, 7));
+    put_box(&mut words, 8, place_of(nine, 8));
     words
 }
 
@@ -98,13 +109,13 @@ fn empty(level: u16, count: u16) -> Page
     Page {
         level,
         count,
-        entries: [unused; 8],
+        entries: [unused; Page::ENTRIES],
     }
 }
 
 // The page with the entries of one group.
-fn filled(nine: Nine, level: u16, members: &[usize; 9], count: usize) -> Page
-    requires { ⌜ (count ≤ 8) × (length (now members) ≡ 9) × Each (λ i. i < 9) (take count (now members)) ⌝ }
+fn filled(nine: Nine, level: u16, members: &[usize; Nine::ENTRIES], count: usize) -> Page
+    requires { ⌜ (count ≤ pageEntries) × (length (now members) ≡ 9) × Each (λ i. i < 9) (take count (now members)) ⌝ }
     ensures { λ r. ⌜ r ≡ pageFrom level (entriesAt (nine .entries) (take count (now (members .entry)))) ⌝ }
 {
     let mut page = empty(level, count as u16);
@@ -125,8 +136,8 @@ pub fn split(page: Page, ninth: Entry) -> Halves
     let level = page.level;
     let nine = nine_of(page, ninth);
     let words = words_of(nine);
-    let mut ones = [0usize; 9];
-    let mut others = [0usize; 9];
+    let mut ones = [0usize; Nine::ENTRIES];
+    let mut others = [0usize; Nine::ENTRIES];
     let seeds = worst_pair(&words);
     let sides = place_all(&words, seeds, &mut ones, &mut others);
     let first = sides.first.count;

@@ -3,8 +3,10 @@
 use crate::covers::box_at;
 use crate::covers::cover_size;
 use crate::covers::size_of;
+use crate::filling::Nine;
 use crate::seeds::Seeds;
 use ground::Box;
+use pages::Page;
 ghost use mathlib.Core.Path.{_≡_};
 ghost use mathlib.Core.Bool.{cond};
 ghost use mathlib.Core.List.{[], _++_};
@@ -55,6 +57,9 @@ impl Choice {
 }
 
 impl Side {
+    // A group that needs all that are left to reach this gets them.
+    pub const LEAST: usize = 3;
+
     fn begun(b: Box) -> Side
         ensures { λ r. ⌜ (r .cover ≡ b) × (r .size ≡ size b) × (r .count ≡ 1) ⌝ }
     {
@@ -98,7 +103,7 @@ impl Side {
 }
 
 // An array's first so many without one of them, closed up.
-fn close_up(places: &mut [usize; 9], at: usize, left: usize)
+fn close_up(places: &mut [usize; Nine::ENTRIES], at: usize, left: usize)
     requires { ⌜ (at < left) × (left ≤ 9) × (length (now places) ≡ 9) ⌝ }
     ensures { λ r. ⌜ (take (left - 1) (now (places .exit)) ≡ without at (take left (now (places .entry)))) × (length (now (places .exit)) ≡ 9) ⌝ }
 {
@@ -111,7 +116,12 @@ fn close_up(places: &mut [usize; 9], at: usize, left: usize)
 }
 
 // Appends all that are left.
-fn append_all(members: &mut [usize; 9], count: usize, places: &[usize; 9], left: usize)
+fn append_all(
+    members: &mut [usize; Nine::ENTRIES],
+    count: usize,
+    places: &[usize; Nine::ENTRIES],
+    left: usize,
+)
     requires { ⌜ (count + left ≤ 9) × (length (now members) ≡ 9) × (length (now places) ≡ 9) ⌝ }
     ensures { λ r. ⌜ (take (count + left) (now (members .exit)) ≡ take count (now (members .entry)) ++ take left (now (places .entry))) × (length (now (members .exit)) ≡ 9) ⌝ }
 {
@@ -122,7 +132,7 @@ fn append_all(members: &mut [usize; 9], count: usize, places: &[usize; 9], left:
     }
 }
 
-fn choice_at(words: &[u16; 54], s: Sides, i: usize, at: usize) -> Choice
+fn choice_at(words: &[u16; Nine::WORDS], s: Sides, i: usize, at: usize) -> Choice
     requires { ⌜ Sound s ⌝ }
     ensures { λ r. ⌜ r ≡ choiceOf (groupsOf s [] [] []) (boxAt (boxesIn (now (words .entry))) i) at ⌝ }
 {
@@ -138,7 +148,7 @@ fn choice_at(words: &[u16; 54], s: Sides, i: usize, at: usize) -> Choice
 }
 
 // The first of the unplaced whose growths differ most.
-fn next(words: &[u16; 54], places: &[usize; 9], s: Sides) -> Choice
+fn next(words: &[u16; Nine::WORDS], places: &[usize; Nine::ENTRIES], s: Sides) -> Choice
     requires { ⌜ Sound s × (0 < s .left) × (s .left ≤ 9) × (length (now places) ≡ 9) ⌝ }
     ensures { λ r. ⌜ r ≡ chosen (boxesIn (now (words .entry))) (groupsOf s (now (places .entry)) [] []) ⌝ }
 {
@@ -163,11 +173,11 @@ fn second_takes(s: Sides, c: Choice) -> bool
 }
 
 fn place(
-    words: &[u16; 54],
+    words: &[u16; Nine::WORDS],
     s: Sides,
-    places: &mut [usize; 9],
-    ones: &mut [usize; 9],
-    others: &mut [usize; 9],
+    places: &mut [usize; Nine::ENTRIES],
+    ones: &mut [usize; Nine::ENTRIES],
+    others: &mut [usize; Nine::ENTRIES],
 ) -> Sides
     requires { ⌜ Sound s × (0 < s .left) × Nines (now places) (now ones) (now others) ⌝ }
     ensures { λ r. ⌜ (groupsOf r (now (places .exit)) (now (ones .exit)) (now (others .exit)) ≡ place (boxesIn (now (words .entry))) (groupsOf s (now (places .entry)) (now (ones .entry)) (now (others .entry)))) × Sound r × Nines (now (places .exit)) (now (ones .exit)) (now (others .exit)) × (r .left ≡ s .left - 1) ⌝ }
@@ -200,11 +210,11 @@ fn place(
 
 // One step: a group that needs all that are left to reach 3 gets them; otherwise one is placed.
 fn round(
-    words: &[u16; 54],
+    words: &[u16; Nine::WORDS],
     s: Sides,
-    places: &mut [usize; 9],
-    ones: &mut [usize; 9],
-    others: &mut [usize; 9],
+    places: &mut [usize; Nine::ENTRIES],
+    ones: &mut [usize; Nine::ENTRIES],
+    others: &mut [usize; Nine::ENTRIES],
 ) -> Sides
     requires { ⌜ Sound s × (0 < s .left) × Nines (now places) (now ones) (now others) ⌝ }
     ensures { λ r. ⌜ (placeAll (boxesIn (now (words .entry))) (r .left) (groupsOf r (now (places .exit)) (now (ones .exit)) (now (others .exit))) ≡ placeAll (boxesIn (now (words .entry))) (s .left) (groupsOf s (now (places .entry)) (now (ones .entry)) (now (others .entry)))) × Sound r × Nines (now (places .exit)) (now (ones .exit)) (now (others .exit)) × (r .left < s .left) ⌝ }
@@ -212,7 +222,7 @@ fn round(
     let first = s.first;
     let second = s.second;
     let left = s.left;
-    if first.count + left <= 3 {
+    if first.count + left <= Side::LEAST {
         append_all(ones, first.count, places, left);
         return Sides {
             first: first.with(left),
@@ -220,7 +230,7 @@ fn round(
             left: 0,
         };
     }
-    if second.count + left <= 3 {
+    if second.count + left <= Side::LEAST {
         append_all(others, second.count, places, left);
         return Sides {
             first,
@@ -233,25 +243,25 @@ fn round(
 
 // From the seeds to two whole groups.
 pub fn place_all(
-    words: &[u16; 54],
+    words: &[u16; Nine::WORDS],
     seeds: Seeds,
-    ones: &mut [usize; 9],
-    others: &mut [usize; 9],
+    ones: &mut [usize; Nine::ENTRIES],
+    others: &mut [usize; Nine::ENTRIES],
 ) -> Sides
     requires { ⌜ (pairOf seeds ≡ Rattle.split.specs.Split.seeds (boxesIn (now words))) × (length (now ones) ≡ 9) × (length (now others) ≡ 9) ⌝ }
     ensures { λ r. ⌜ (groupsOf r [] (now (ones .exit)) (now (others .exit)) ≡ placeAll (boxesIn (now (words .entry))) (length (begin (boxesIn (now (words .entry))) .unplaced)) (begin (boxesIn (now (words .entry))))) × (length (now (ones .exit)) ≡ 9) × (length (now (others .exit)) ≡ 9) ⌝ }
 {
     let first = seeds.first;
     let second = seeds.second;
-    let mut places: [usize; 9] = [0, 1, 2, 3, 4, 5, 6, 7, 8];
-    close_up(&mut places, second, 9);
-    close_up(&mut places, first, 8);
+    let mut places: [usize; Nine::ENTRIES] = [0, 1, 2, 3, 4, 5, 6, 7, 8];
+    close_up(&mut places, second, Nine::ENTRIES);
+    close_up(&mut places, first, Page::ENTRIES);
     ones[0] = first;
     others[0] = second;
     let mut s = Sides {
         first: Side::begun(box_at(words, first)),
         second: Side::begun(box_at(words, second)),
-        left: 7,
+        left: Nine::BUT_SEEDS,
     };
     while 0 < s.left {
         s = round(words, s, &mut places, ones, others);

@@ -2,6 +2,7 @@
 use crate::covers::box_at;
 use crate::covers::cover_size;
 use crate::covers::size_of;
+use crate::filling::Nine;
 ghost use mathlib.Core.Path.{_≡_};
 ghost use mathlib.Core.Bool.{cond};
 ghost use Prim.Native.Nat.{_+_, _-_, _<_};
@@ -30,14 +31,14 @@ impl Seeds {
     }
 }
 
-fn size_at(words: &[u16; 54], i: usize) -> u64
+fn size_at(words: &[u16; Nine::WORDS], i: usize) -> u64
     ensures { λ r. ⌜ SizeAt (boxesIn (now (words .entry))) i r ⌝ }
 {
     size_of(box_at(words, i))
 }
 
 // Each place is in eight pairs, so it is weighed before them.
-fn sizes_of(words: &[u16; 54]) -> [u64; 9]
+fn sizes_of(words: &[u16; Nine::WORDS]) -> [u64; Nine::ENTRIES]
     ensures { λ r. ⌜ SizesOf (boxesIn (now (words .entry))) r ⌝ }
 {
     [
@@ -54,7 +55,12 @@ fn sizes_of(words: &[u16; 54]) -> [u64; 9]
 }
 
 // The worst of a pair and all that have this first place.
-fn worst_with(words: &[u16; 54], sizes: &[u64; 9], first: usize, pair: Seeds) -> Seeds
+fn worst_with(
+    words: &[u16; Nine::WORDS],
+    sizes: &[u64; Nine::ENTRIES],
+    first: usize,
+    pair: Seeds,
+) -> Seeds
     requires { ⌜ (first < 9) × Weighed (boxesIn (now words)) pair × Small pair × SizesOf (boxesIn (now words)) (now sizes) ⌝ }
     ensures { λ r. ⌜ (pairOf r ≡ mostWasteful (boxesIn (now (words .entry))) (pairOf pair) (pairsWith first (places (first + 1) (9 - (first + 1))))) × Weighed (boxesIn (now (words .entry))) r × Small r ⌝ }
 {
@@ -62,7 +68,7 @@ fn worst_with(words: &[u16; 54], sizes: &[u64; 9], first: usize, pair: Seeds) ->
     let size = sizes[first];
     let mut worst = pair;
     let mut second = first + 1;
-    while second < 9 {
+    while second < Nine::ENTRIES {
         let other = box_at(words, second);
         let next = Seeds {
             first,
@@ -76,7 +82,7 @@ fn worst_with(words: &[u16; 54], sizes: &[u64; 9], first: usize, pair: Seeds) ->
     worst
 }
 
-pub fn worst_pair(words: &[u16; 54]) -> Seeds
+pub fn worst_pair(words: &[u16; Nine::WORDS]) -> Seeds
     ensures { λ r. ⌜ pairOf r ≡ seeds (boxesIn (now (words .entry))) ⌝ }
 {
     let one = box_at(words, 0);
@@ -89,7 +95,7 @@ pub fn worst_pair(words: &[u16; 54]) -> Seeds
     };
     let sizes = sizes_of(words);
     let mut first = 0;
-    while first < 9 {
+    while first < Nine::ENTRIES {
         worst = worst_with(words, &sizes, first, worst);
         first += 1;
     }

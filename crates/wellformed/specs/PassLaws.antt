@@ -11,7 +11,7 @@ use lib.ListN.{length, getD, drop, drop-of-length-le}
 use lib.Seq.{drop-cons}
 use Rattle.ground.specs.Boxes.{legal, gustPasses}
 use Rattle.ground.specs.declared.boxes.Box.{Box}
-use Rattle.pages.specs.Layout.{pageEntries, countAt, pagesIn, tableFits, pagesOf, pageAt, levelAt, zeroEntry, wordsOfEntry, wordsOfEntries, wordsOfPage}
+use Rattle.pages.specs.Layout.{afterGust, pageEntries, countAt, pagesIn, tableFits, pagesOf, pageAt, levelAt, zeroEntry, wordsOfEntry, wordsOfEntries, wordsOfPage}
 use Rattle.pages.specs.LayoutLaws.{pages-length, pages-at, level-in, count-in}
 use Rattle.pages.specs.Summary.{inUse, summaryOf}
 use Rattle.pages.specs.Words.{every, allZero, sameWords}
@@ -64,9 +64,9 @@ recordStands e = legal (e .place) && gustPasses (record { tenths = e .gust })
 pub record-is : (e : Entry) (b : Box) (l : Bool) (v : ℕ) (g : Bool) → b ≡ e .place → l ≡ legal b → v ≡ e .gust → g ≡ gustPasses (record { tenths = v }) → (l && g) ≡ recordStands e
 record-is e b l v g p q r s = ap₂ (λ x y. x && y) (q ∙ ap legal p) (s ∙ ap (λ n. gustPasses (record { tenths = n })) r)
 
-pub leaf-turn : (e : Entry) (s z r x : Bool) → r ≡ recordStands e → x ≡ (z && allZero (drop 7 (wordsOfEntry e))) → (s && r && x) ≡ (s && z && leafEntryStands e)
+pub leaf-turn : (e : Entry) (s z r x : Bool) → r ≡ recordStands e → x ≡ (z && allZero (afterGust e)) → (s && r && x) ≡ (s && z && leafEntryStands e)
 unfolding leafEntryStands
-leaf-turn e s z r x p q = rw (p, q) (crossed s (recordStands e) z (allZero (drop 7 (wordsOfEntry e))))
+leaf-turn e s z r x p q = rw (p, q) (crossed s (recordStands e) z (allZero (afterGust e)))
   where
     crossed : (a b c d : Bool) → (a && b && (c && d)) ≡ (a && c && (b && d))
     crossed true b true d = refl

@@ -5,7 +5,7 @@ use mathlib.Core.List.{List, [], _∷_, map, flatMap}
 use lib.Dec.{leb, ltb, eqb}
 use lib.ListN.{length, getD, drop}
 use Rattle.ground.specs.Boxes.{legal, gustPasses}
-use Rattle.pages.specs.Layout.{pageEntries, tableFits, pagesOf, freePage, wordsOfEntry, wordsOfEntries, wordsOfPage}
+use Rattle.pages.specs.Layout.{afterGust, pageEntries, tableFits, pagesOf, freePage, wordsOfEntry, wordsOfEntries, wordsOfPage}
 use Rattle.pages.specs.Free.{isFree}
 use Rattle.pages.specs.Summary.{inUse, isLeaf, summaryOf}
 use Rattle.pages.specs.Words.{every, allZero, sameWords}
@@ -75,7 +75,7 @@ countStands s p x = leb (leastCount s p (x .level)) (x .count) && leb (x .count)
 
 -- Rules 3.6, 2.17: leaf boxes and gusts pass 2 and 3, and in a leaf entry all words after the gust are 0.
 unfoldable pub leafEntryStands : Entry → Bool
-leafEntryStands e = legal (e .place) && gustPasses (record { tenths = e .gust }) && allZero (drop 7 (wordsOfEntry e))
+leafEntryStands e = legal (e .place) && gustPasses (record { tenths = e .gust }) && allZero (afterGust e)
 
 -- Rule 3.7: all entries of an index page are exact.
 unfoldable pub isExact : List Page → Entry → Bool

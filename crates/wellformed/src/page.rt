@@ -1,6 +1,7 @@
 // One page, tested by itself and against its children.
 use crate::entries::index_entries_stand;
 use crate::entries::leaf_entries_stand;
+use pages::Page;
 use pages::Small;
 ghost use mathlib.Core.Bool.{true};
 ghost use mathlib.Core.Path.{_≡_};
@@ -29,7 +30,7 @@ pub fn page_passes(t: &[u16], s: Small, p: usize) -> bool
     }
     let n = pages::in_use(t, p);
     let count = pages::count(t, p);
-    let fits = (least_count(s, p, level) <= count) & (count <= 8);
+    let fits = (least_count(s, p, level) <= count) & (count <= Page::MOST_COUNT);
     let rest = pages::unused_is_zero(t, p, n);
     if level == 1 {
         return fits & leaf_entries_stand(t, p, n) & rest;

@@ -9,7 +9,7 @@ ghost use mathlib.Core.Path.{_≡_};
 ghost use Prim.Native.Nat.{_≤_};
 ghost use lib.ListN.{length, replicate};
 ghost use Rattle.pages.specs.Facts.{InTable};
-ghost use Rattle.pages.specs.Layout.{mostPages, tableFits, pagesIn, pagesOf, pageAt};
+ghost use Rattle.pages.specs.Layout.{pageEntries, mostPages, tableFits, pagesIn, pagesOf, pageAt};
 ghost use Rattle.wellformed.specs.WellFormed.{leafEntries, rootStands, countsStand, checked};
 ghost use Rattle.wellformed.specs.VerdictLaws.{Passed};
 
@@ -38,7 +38,7 @@ fn root_stands(t: &[u16], s: Small) -> bool
 
 fn held_in(t: &[u16], p: usize) -> u32
     requires { ⌜ InTable (now t) p ⌝ }
-    ensures { λ r. ⌜ (r ≤ 8) × (r ≡ length (leafEntries (pageAt (now (t .entry)) p))) ⌝ }
+    ensures { λ r. ⌜ (r ≤ pageEntries) × (r ≡ length (leafEntries (pageAt (now (t .entry)) p))) ⌝ }
 {
     if pages::level(t, p) == 1 {
         pages::in_use(t, p) as u32
@@ -81,7 +81,7 @@ pub fn check(t: &[u16], s: Small) -> Checked
     if !root_stands(t, s) {
         return Checked::Damaged;
     }
-    let mut marks = [0u8; 4096];
+    let mut marks = [0u8; Page::MOST];
     let found = pass_over(t, s, &mut marks);
     let named = marks_stand(t, s, &marks);
     if found.stands & named & counts_stand(s, found.held) {

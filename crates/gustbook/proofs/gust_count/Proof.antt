@@ -13,7 +13,7 @@ tell-counted-requires : tie.Need-tell-counted-requires
 tell-counted-requires c κs = tt
 
 returns : tie.Need-returns
-returns c = count-told _ (c .before .before .before .before .before .args .small .now) _ _ _ _ (c .before .before .before .small-of .ensures) (c .before .before .count .ensures) (c .tell-counted .ensures)
+returns c = count-told _ (c .before .before .before .before .before .args .small .now) _ _ (c .before .before .count .result) _ (c .before .before .before .small-of .ensures) (c .before .before .count .ensures) (c .tell-counted .ensures)
 
 pub gust-count-spec : {M : Type 1} → statement M
 gust-count-spec =

@@ -1,72 +1,100 @@
 -- `recording::root::from_root` meets its contract.
-use lib.ListN.{length}
-use mathlib.Core.Path.{_≡_, refl, _∙_, sym}
-use native.Mathlib.Omega.{arith}
-use borrow.Author.Tests.{not-true, not-false}
-use Rattle.rules.specs.Recording.{Walked}
-use Rattle.recording.specs.Views.{Walks}
-use Rattle.recording.specs.WalkSteps.{MayWalk, may-begin, may-walk-on}
-use Rattle.recording.specs.RootSteps.{Again, againFrom, again-begin, again-next, again-done, again-out, again-finish, may-walk-again}
+use borrow.Author.Needs.{needs}
+use Rattle.recording.specs.RootSteps.{may-begin, may-walk-empty, from-empty, may-walk-left, from-left}
+use Rattle.recording.specs.TableSteps.{still-fits}
 use Rattle.recording.proofs.root.from_root.Statement.{statement}
 use Rattle.recording.proofs.root.from_root.Tie as tie
 
-abbrev Inv-loop : tie.InvT-loop
-Inv-loop t₀ n v root fuel₀ q w₀ t fuel w = (length t ≡ length t₀) × ((x : Walked) → Walks t₀ t₀ w₀ x → Again fuel n v root t₀ t w (againFrom fuel₀ n v root x)) × MayWalk t q (w .sought .place)
-
-abbrev μ-loop : tie.MeasureT-loop
-μ-loop t₀ n v root fuel₀ q w₀ t fuel w = fuel
-
-sieve-of-requires : tie.Need-sieve-of-requires Inv-loop μ-loop
+sieve-of-requires : tie.Need-sieve-of-requires
 sieve-of-requires c κs = tt
 
-walk-down-requires : tie.Need-walk-down-requires Inv-loop μ-loop
-walk-down-requires c κs = may-begin (c .before .before .before .before .args .t .now) (c .before .before .sieve-of .result) (c .before .before .before .before .args .s .place) (c .before .before .before .before .pre .0) (c .before .before .before .before .pre .1) (c .before .before .before .before .pre .2) (c .before .before .sieve-of .ensures)
+strike-at-requires : tie.Need-strike-at-requires
+strike-at-requires c κs = search may-begin
 
-loop-holds : tie.Need-loop-holds Inv-loop μ-loop
-loop-holds c = (refl, λ x h. again-begin _ _ _ _ _ _ x h, may-walk-on _ _ _ (c .before .before .before .before .before .before .before .args .t .now) (c .before .before .walk-down .last .0) (c .before .before .before .before .before .sieve-of .result) (c .before .before .before .before .before .before .before .args .s) (c .before .before .walk-down .result) (may-begin (c .before .before .before .before .before .before .before .args .t .now) (c .before .before .before .before .before .sieve-of .result) (c .before .before .before .before .before .before .before .args .s .place) (c .before .before .before .before .before .before .before .pre .0) (c .before .before .before .before .before .before .before .pre .1) (c .before .before .before .before .before .before .before .pre .2) (c .before .before .before .before .before .sieve-of .ensures)) (c .before .before .walk-down .ensures))
+used-at-requires : tie.Need-used-at-requires
+used-at-requires c κs = search still-fits
 
-is-again-requires : tie.Need-is-again-requires Inv-loop μ-loop
-is-again-requires c κs = tt
+empty-leaf-requires : tie.Need-empty-leaf-requires
+empty-leaf-requires c κs = tt
 
-same-length : tie.Need-same-length Inv-loop μ-loop
-same-length c = c .before .before .before .loop .inv .0 ∙ c .before .before .before .before .before .before .walk-down .ensures .same-length
+store-requires : tie.Need-store-requires
+store-requires c κs = search still-fits
 
-returns : tie.Need-returns Inv-loop μ-loop
-returns c = again-finish _ _ _ _ _ _ _ _ (c .before .before .before .before .before .before .walk-down .result) _ refl (c .before .before .before .before .before .before .walk-down .ensures) (λ x h. again-done _ _ _ _ _ _ _ _ (sym (c .before .is-again .ensures) ∙ not-true _ (c .if1 .taken)) (c .before .before .before .loop .inv .1 x h))
+walk-down-requires : tie.Need-walk-down-requires
+walk-down-requires c κs =
+    let stored = c .before .before .before .before in
+    let leaf = stored .before in
+    let none = leaf .before .before in
+    let used = none .before in
+    let struck = used .before .before .before .before in
+    let sieved = struck .before .before .before in
+    let start = sieved .before .before in
+    let may = may-begin start.args.n start.args.v start.args.t.now sieved.sieve-of.result start.args.root start.args.s start.pre.0 start.pre.1 sieved.sieve-of.ensures in (
+      may-walk-empty start.args.n start.args.v start.args.root struck.strike-at.result used.used-at.result start.args.t.now struck.strike-at.last.0 sieved.sieve-of.result start.args.s
+          start.pre.1 may struck.strike-at.ensures used.used-at.ensures none.if1.taken
+          stored.store.last.0 leaf.empty-leaf.result leaf.empty-leaf.ensures stored.store.ensures,
+      search needs,
+    )
 
-once-more-requires : tie.Need-once-more-requires Inv-loop μ-loop
-once-more-requires c κs = c .before .before .before .before .before .loop .inv .2
+same-length : tie.Need-same-length
+same-length c = search needs
 
-sub-fuel : tie.Need-sub-fuel Inv-loop μ-loop
-sub-fuel c = omega arith
+returns : tie.Need-returns
+returns c =
+    let walked = c .before .before in
+    let stored = walked .before .before .before .before .before in
+    let leaf = stored .before in
+    let none = leaf .before .before in
+    let used = none .before in
+    let struck = used .before .before .before .before in
+    let sieved = struck .before .before .before in
+    let start = sieved .before .before in
+    let may = may-begin start.args.n start.args.v start.args.t.now sieved.sieve-of.result start.args.root start.args.s start.pre.0 start.pre.1 sieved.sieve-of.ensures in
+    from-empty start.args.n start.args.v start.args.root struck.strike-at.result used.used-at.result start.args.t.now struck.strike-at.last.0 sieved.sieve-of.result start.args.s
+    start.pre.1 may struck.strike-at.ensures used.used-at.ensures none.if1.taken
+    stored.store.last.0 leaf.empty-leaf.result leaf.empty-leaf.ensures stored.store.ensures walked.walk-down.last.0 walked.walk-down.result walked.walk-down.ensures
 
-loop-less : tie.Need-loop-less Inv-loop μ-loop
-loop-less c = omega arith
+walk-down-requires-2 : tie.Need-walk-down-requires-2
+walk-down-requires-2 c κs =
+    let some = c .before .before in
+    let used = some .before in
+    let struck = used .before .before .before .before in
+    let sieved = struck .before .before .before in
+    let start = sieved .before .before in
+    let may = may-begin start.args.n start.args.v start.args.t.now sieved.sieve-of.result start.args.root start.args.s start.pre.0 start.pre.1 sieved.sieve-of.ensures in (
+      may-walk-left start.args.n start.args.v start.args.root struck.strike-at.result used.used-at.result start.args.t.now struck.strike-at.last.0 sieved.sieve-of.result start.args.s
+          start.pre.1 may struck.strike-at.ensures used.used-at.ensures some.if1.left,
+      search needs,
+    )
 
-loop-again : tie.Need-loop-again Inv-loop μ-loop
-loop-again c = (c .before .before .once-more .ensures .walks .same-length ∙ c .before .before .before .before .before .before .before .before .loop .inv .0, λ x h. again-next _ _ _ _ _ _ _ _ _ _ (omega arith) (sym (c .before .before .before .before .before .before .is-again .ensures) ∙ not-false _ (c .before .before .before .before .before .if1 .left)) (c .before .before .before .before .before .before .before .before .loop .inv .1 x h) (c .before .before .once-more .ensures), may-walk-again _ _ _ (c .before .before .before .before .before .before .before .before .loop .t) (c .before .before .once-more .last .0) (c .before .before .before .before .before .before .before .before .before .before .before .before .before .before .sieve-of .result) (c .before .before .before .before .before .before .before .before .loop .w) (c .before .before .once-more .result) (c .before .before .before .before .before .before .before .before .loop .inv .2) (c .before .before .once-more .ensures))
+same-length-2 : tie.Need-same-length-2
+same-length-2 c = search needs
 
-same-length-2 : tie.Need-same-length-2 Inv-loop μ-loop
-same-length-2 c = c .before .loop .inv .0 ∙ c .before .before .before .before .walk-down .ensures .same-length
-
-returns-2 : tie.Need-returns-2 Inv-loop μ-loop
-returns-2 c = again-finish _ _ _ _ _ _ _ _ (c .before .before .before .before .walk-down .result) _ refl (c .before .before .before .before .walk-down .ensures) (λ x h. again-out _ _ _ _ _ _ _ _ (c .loop-test .left) (c .before .loop .inv .1 x h))
+returns-2 : tie.Need-returns-2
+returns-2 c =
+    let walked = c .before .before in
+    let some = walked .before .before .before in
+    let used = some .before in
+    let struck = used .before .before .before .before in
+    let sieved = struck .before .before .before in
+    let start = sieved .before .before in
+    let may = may-begin start.args.n start.args.v start.args.t.now sieved.sieve-of.result start.args.root start.args.s start.pre.0 start.pre.1 sieved.sieve-of.ensures in
+    from-left start.args.n start.args.v start.args.root struck.strike-at.result used.used-at.result start.args.t.now struck.strike-at.last.0 sieved.sieve-of.result start.args.s
+    start.pre.1 may struck.strike-at.ensures used.used-at.ensures some.if1.left
+    walked.walk-down2.last.0 walked.walk-down2.result walked.walk-down2.ensures
 
 pub from-root-spec : {M : Type 1} → statement M
 from-root-spec =
     tie.close
     (tie.spec
-    Inv-loop
-    μ-loop
     sieve-of-requires
+    strike-at-requires
+    used-at-requires
+    empty-leaf-requires
+    store-requires
     walk-down-requires
-    loop-holds
-    is-again-requires
     same-length
     returns
-    once-more-requires
-    sub-fuel
-    loop-less
-    loop-again
+    walk-down-requires-2
     same-length-2
     returns-2)

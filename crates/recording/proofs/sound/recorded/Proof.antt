@@ -16,7 +16,9 @@ cast-height : tie.Need-cast-height
 cast-height c = search needs
 
 sub-from-root : tie.Need-sub-from-root
-sub-from-root c = search (needs, sound-small (c .before .before .before .before .args .t .now) (c .before .before .before .before .args .s) (c .before .before .before .before .pre .sound))
+sub-from-root c =
+    let start = c .before .before .before .before in
+    search (needs, sound-small start.args.t.now start.args.s start.pre.sound)
 
 cast-from-root : tie.Need-cast-from-root
 cast-from-root c = search needs
@@ -25,16 +27,29 @@ handed-in-requires : tie.Need-handed-in-requires
 handed-in-requires c κs = tt
 
 from-root-requires : tie.Need-from-root-requires
-from-root-requires c κs = may-walk-from-root (c .before .before .before .before .before .args .t .now) (c .before .before .before .before .before .args .s) (c .before .before .before .before .before .args .b) (c .before .before .before .before .before .args .v) (c .handed-in .result) (c .before .before .before .before .before .pre) (c .handed-in .ensures)
+from-root-requires c κs =
+    let start = c .before .before .before .before .before in
+    may-walk-from-root start.args.t.now start.args.s start.args.b start.args.v c.handed-in.result start.pre c.handed-in.ensures
 
 put-root-right-requires : tie.Need-put-root-right-requires
-put-root-right-requires c κs = still-fits (c .before .before .before .before .before .before .before .before .before .before .args .t .now) (c .before .before .before .before .from-root .last .0) (c .before .before .before .before .before .before .before .before .before .before .pre .fits) (c .before .before .before .before .from-root .ensures .same-length)
+put-root-right-requires c κs = search still-fits
 
 collapse-requires : tie.Need-collapse-requires
-collapse-requires c κs = still-fits (c .before .before .before .before .before .before .before .before .before .before .before .before .before .before .args .t .now) (c .before .before .before .put-root-right .last .0) (c .before .before .before .before .before .before .before .before .before .before .before .before .before .before .pre .fits) (c .before .before .before .put-root-right .ensures .same-length ∙ c .before .before .before .before .before .before .before .before .from-root .ensures .same-length)
+collapse-requires c κs =
+    let right = c .before .before .before in
+    let walked = right .before .before .before .before .before in
+    let start = walked .before .before .before .before .before .before in
+    still-fits start.args.t.now right.put-root-right.last.0 start.pre.fits (right.put-root-right.ensures.same-length ∙ walked.from-root.ensures.same-length)
 
 small-after-requires : tie.Need-small-after-requires
-small-after-requires c κs = (still-fits (c .before .before .before .before .before .before .before .before .before .before .before .before .before .before .before .before .before .before .args .t .now) (c .before .before .before .collapse .last .0) (c .before .before .before .before .before .before .before .before .before .before .before .before .before .before .before .before .before .before .pre .fits) (c .before .before .before .collapse .ensures .same-length ∙ c .before .before .before .before .before .before .before .put-root-right .ensures .same-length ∙ c .before .before .before .before .before .before .before .before .before .before .before .before .from-root .ensures .same-length), sound-small (c .before .before .before .before .before .before .before .before .before .before .before .before .before .before .before .before .before .before .args .t .now) (c .before .before .before .before .before .before .before .before .before .before .before .before .before .before .before .before .before .before .args .s) (c .before .before .before .before .before .before .before .before .before .before .before .before .before .before .before .before .before .before .pre .sound) .accepted, sound-small (c .before .before .before .before .before .before .before .before .before .before .before .before .before .before .before .before .before .before .args .t .now) (c .before .before .before .before .before .before .before .before .before .before .before .before .before .before .before .before .before .before .args .s) (c .before .before .before .before .before .before .before .before .before .before .before .before .before .before .before .before .before .before .pre .sound) .struck, sound-small (c .before .before .before .before .before .before .before .before .before .before .before .before .before .before .before .before .before .before .args .t .now) (c .before .before .before .before .before .before .before .before .before .before .before .before .before .before .before .before .before .before .args .s) (c .before .before .before .before .before .before .before .before .before .before .before .before .before .before .before .before .before .before .pre .sound) .covered, omega (arith, c .before .before .before .before .before .before .before .before .before .before .before .before .from-root .ensures .struck-is))
+small-after-requires c κs =
+    let collapsed = c .before .before .before in
+    let right = collapsed .before .before .before .before in
+    let walked = right .before .before .before .before .before in
+    let start = walked .before .before .before .before .before .before in
+    let fine = sound-small start.args.t.now start.args.s start.pre.sound in
+    let length = collapsed.collapse.ensures.same-length ∙ right.put-root-right.ensures.same-length ∙ walked.from-root.ensures.same-length in
+    (still-fits start.args.t.now collapsed.collapse.last.0 start.pre.fits length, omega (arith, fine.accepted, start.pre.unspent), fine.struck, fine.covered, omega (arith, walked.from-root.ensures.struck-is))
 
 outcome-of-requires : tie.Need-outcome-of-requires
 outcome-of-requires c κs = tt
@@ -43,7 +58,17 @@ same-length : tie.Need-same-length
 same-length c = search needs
 
 returns : tie.Need-returns
-returns c = answered-so (c .before .before .before .before .before .before .before .before .before .before .before .before .before .before .before .before .before .before .before .before .args .t .now) _ (c .before .before .before .before .before .before .before .before .before .before .before .before .before .before .before .before .before .before .before .before .args .s) (c .before .before .before .before .before .before .before .before .before .before .before .before .before .before .before .before .before .before .before .before .args .b) (c .before .before .before .before .before .before .before .before .before .before .before .before .before .before .before .before .before .before .before .before .args .v) _ (c .before .before .before .before .before .before .before .before .before .before .before .before .before .before .before .before .before .before .before .before .pre) (all-recorded (c .before .before .before .before .before .before .before .before .before .before .before .before .before .before .before .before .before .before .before .before .args .t .now) _ _ _ (c .before .before .before .before .before .before .before .before .before .before .before .before .before .before .before .before .before .before .before .before .args .s) _ (c .before .before .before .before .before .before .before .before .before .before .before .before .before .before .before .before .before .before .before .before .args .b) (c .before .before .before .before .before .before .before .before .before .before .before .before .before .before .before .before .before .before .before .before .args .v) _ _ (c .before .before .before .before .before .before .before .before .before .before .before .before .before .before .from-root .result) (c .outcome-of .result) (from-handed-in _ _ _ _ _ _ _ _ _ (c .before .before .before .before .before .before .before .before .before .before .before .before .before .before .before .handed-in .ensures) (c .before .before .before .before .before .before .before .before .before .before .before .before .before .before .from-root .ensures)) (c .before .before .before .before .before .before .before .before .before .put-root-right .ensures) (c .before .before .before .before .before .collapse .ensures) (c .outcome-of .ensures) (c .before .small-after .ensures))
+returns c =
+    let small = c .before in
+    let collapsed = small .before .before .before .before in
+    let right = collapsed .before .before .before .before in
+    let walked = right .before .before .before .before .before in
+    let handed = walked .before in
+    let start = handed .before .before .before .before .before in
+    answered-so start.args.t.now _ start.args.s start.args.b start.args.v _ start.pre
+    (all-recorded start.args.t.now _ _ _ start.args.s _ start.args.b start.args.v _ _ walked.from-root.result c.outcome-of.result
+    (from-handed-in _ _ _ _ _ _ _ _ handed.handed-in.ensures walked.from-root.ensures)
+    right.put-root-right.ensures collapsed.collapse.ensures c.outcome-of.ensures small.small-after.ensures)
 
 pub recorded-spec : {M : Type 1} → statement M
 recorded-spec =

@@ -1,9 +1,6 @@
 -- `recording::walk::+walk_down` meets its contract.
-use Rattle.recording.specs.Views.{soughtOf}
-use Rattle.recording.specs.WalkSteps.{lies, may-walk-struck, may-go-down, may-come-back, walked-leaf, page-emptied, index-covered, came-back}
-use mathlib.Core.Path.{_∙_}
 use borrow.Author.Needs.{needs}
-use native.Mathlib.Omega.{arith}
+use Rattle.recording.specs.WalkSteps.{lies, may-walk-leaf, leaf-walks, index-covered, may-strike-child, may-go-down, may-come-back, came-back}
 use Prim.Native.Nat.{ℕ, _<_}
 use borrow.Fn.Kinds.{In}
 use borrow.Fn.PlainCycle.{Measures, is, falls, and}
@@ -16,7 +13,6 @@ use Rattle.recording.proofs.settle.come_back.Reads as come-back-reads
 use Rattle.recording.proofs.strike.more_struck.Reads as more-struck-reads
 use Rattle.recording.proofs.strike.strike_at.Reads as strike-at-reads
 use Rattle.recording.proofs.table.child_lying.Reads as child-lying-reads
-use Rattle.recording.proofs.table.used_at.Reads as used-at-reads
 use Rattle.recording.proofs.walk.at_leaf.Reads as at-leaf-reads
 use Rattle.recording.proofs.walk.+walk_down.{statement}
 use Rattle.recording.proofs.walk.+walk_down.Tie.{close}
@@ -35,80 +31,118 @@ abbrev calls : ℕ → walk-down-lts.Claims
 calls t = (
   at-leaf-reads.Asked,
   at-leaf-reads.Learnt,
-  strike-at-reads.Asked,
-  strike-at-reads.Learnt,
-  used-at-reads.Asked,
-  used-at-reads.Learnt,
   scan-index-reads.Asked,
   scan-index-reads.Learnt,
   choose-at-reads.Asked,
   choose-at-reads.Learnt,
   child-lying-reads.Asked,
   child-lying-reads.Learnt,
+  strike-at-reads.Asked,
+  strike-at-reads.Learnt,
+  more-struck-reads.Asked,
+  more-struck-reads.Learnt,
   walk-down-below t,
   walk-down.Post,
   come-back-reads.Asked,
   come-back-reads.Learnt,
-  more-struck-reads.Asked,
-  more-struck-reads.Learnt,
 )
 
 walk-down-at-leaf-requires : (t : ℕ) → walk-down-lts.Need-at-leaf-requires (calls t) (walk-down-at t) walk-down.Post
-walk-down-at-leaf-requires t c κs = c .before .before .before .pre .1
+walk-down-at-leaf-requires t c κs = search may-walk-leaf
 
 walk-down-same-length : (t : ℕ) → walk-down-lts.Need-same-length (calls t) (walk-down-at t) walk-down.Post
-walk-down-same-length t c = c .before .before .at-leaf .ensures .same-length
+walk-down-same-length t c = search needs
 
 walk-down-returns : (t : ℕ) → walk-down-lts.Need-returns (calls t) (walk-down-at t) walk-down.Post
-walk-down-returns t c = walked-leaf (c .before .before .before .before .before .before .args .n) (c .before .before .before .before .before .before .args .v) (c .before .before .before .before .before .before .args .p) (c .before .before .before .before .before .before .args .t .now) _ (soughtOf (c .before .before .before .before .before .before .args .s)) _ (c .before .before .before .before .if1 .taken) (c .before .before .at-leaf .ensures)
-
-walk-down-strike-at-requires : (t : ℕ) → walk-down-lts.Need-strike-at-requires (calls t) (walk-down-at t) walk-down.Post
-walk-down-strike-at-requires t c κs = c .before .before .before .pre .1
-
-walk-down-used-at-requires : (t : ℕ) → walk-down-lts.Need-used-at-requires (calls t) (walk-down-at t) walk-down.Post
-walk-down-used-at-requires t c κs = (may-walk-struck (c .before .before .before .before .before .before .before .args .n) (c .before .before .before .before .before .before .before .args .v) (c .before .before .before .before .before .before .before .args .p) (c .before .before .before .strike-at .result) (c .before .before .before .before .before .before .before .args .t .now) (c .before .before .before .strike-at .last .0) (c .before .before .before .before .before .before .before .args .q .now) (c .before .before .before .before .before .before .before .args .s) (c .before .before .before .before .before .before .before .pre .1) (c .before .before .before .strike-at .ensures)) .fits
-
-walk-down-same-length-2 : (t : ℕ) → walk-down-lts.Need-same-length-2 (calls t) (walk-down-at t) walk-down.Post
-walk-down-same-length-2 t c = c .before .before .before .before .before .strike-at .ensures .same-length
-
-walk-down-returns-2 : (t : ℕ) → walk-down-lts.Need-returns-2 (calls t) (walk-down-at t) walk-down.Post
-walk-down-returns-2 t c = page-emptied (c .before .before .before .before .before .before .before .before .before .args .n) (c .before .before .before .before .before .before .before .before .before .args .v) (c .before .before .before .before .before .before .before .before .before .args .p) (c .before .before .before .before .before .strike-at .result) (c .before .used-at .result) (c .before .before .before .before .before .before .before .before .before .args .t .now) (c .before .before .before .before .before .strike-at .last .0) (c .before .before .before .before .before .before .before .before .before .args .q .now) (c .before .before .before .before .before .before .before .before .before .args .s) (c .before .before .before .before .before .before .before .before .before .pre .1) (c .before .before .before .before .before .strike-at .ensures) (c .before .used-at .ensures) (c .if2 .taken)
+walk-down-returns t c = search leaf-walks
 
 walk-down-scan-index-requires : (t : ℕ) → walk-down-lts.Need-scan-index-requires (calls t) (walk-down-at t) walk-down.Post
-walk-down-scan-index-requires t c κs = (lies (c .before .before .before .before .before .before .before .before .before .before .args .p) (c .before .before .used-at .result) (c .before .before .before .before .before .before .strike-at .last .0) (c .before .before .before .before .before .before .before .before .before .before .args .q .now) (c .before .before .before .before .before .before .before .before .before .before .args .s .place) (may-walk-struck (c .before .before .before .before .before .before .before .before .before .before .args .n) (c .before .before .before .before .before .before .before .before .before .before .args .v) (c .before .before .before .before .before .before .before .before .before .before .args .p) (c .before .before .before .before .before .before .strike-at .result) (c .before .before .before .before .before .before .before .before .before .before .args .t .now) (c .before .before .before .before .before .before .strike-at .last .0) (c .before .before .before .before .before .before .before .before .before .before .args .q .now) (c .before .before .before .before .before .before .before .before .before .before .args .s) (c .before .before .before .before .before .before .before .before .before .before .pre .1) (c .before .before .before .before .before .before .strike-at .ensures)) (c .before .before .used-at .ensures) (c .before .if2 .left), c .before .before .before .before .before .before .before .before .before .before .pre .1 .sieve, c .before .before .before .before .before .before .before .before .before .before .pre .1 .within)
+walk-down-scan-index-requires t c κs = (search lies, search needs, search needs)
 
-walk-down-same-length-3 : (t : ℕ) → walk-down-lts.Need-same-length-3 (calls t) (walk-down-at t) walk-down.Post
-walk-down-same-length-3 t c = c .before .before .before .before .before .before .before .before .strike-at .ensures .same-length
+walk-down-same-length-2 : (t : ℕ) → walk-down-lts.Need-same-length-2 (calls t) (walk-down-at t) walk-down.Post
+walk-down-same-length-2 t c = search needs
 
-walk-down-returns-3 : (t : ℕ) → walk-down-lts.Need-returns-3 (calls t) (walk-down-at t) walk-down.Post
-walk-down-returns-3 t c = index-covered (c .before .before .before .before .before .before .before .before .before .before .before .before .args .n) (c .before .before .before .before .before .before .before .before .before .before .before .before .args .v) (c .before .before .before .before .before .before .before .before .before .before .before .before .args .p) (c .before .before .before .before .before .before .before .before .strike-at .result) (c .before .before .before .before .used-at .result) (c .before .before .before .before .before .before .before .before .before .before .before .before .args .t .now) (c .before .before .before .before .before .before .before .before .strike-at .last .0) (c .before .before .before .before .before .before .before .before .before .before .before .before .args .q .now) (c .before .before .before .before .before .before .before .before .before .before .before .before .args .s) (c .before .before .before .before .before .before .before .before .before .before .before .before .pre .1) (c .before .before .before .before .before .before .before .before .strike-at .ensures) (c .before .before .before .before .used-at .ensures) (c .before .scan-index .result) (c .before .before .before .if2 .left) (c .before .before .before .before .before .before .before .before .before .before .if1 .left) (c .before .scan-index .ensures) (c .if3 .taken)
+walk-down-returns-2 : (t : ℕ) → walk-down-lts.Need-returns-2 (calls t) (walk-down-at t) walk-down.Post
+walk-down-returns-2 t c = search index-covered
 
 walk-down-choose-at-requires : (t : ℕ) → walk-down-lts.Need-choose-at-requires (calls t) (walk-down-at t) walk-down.Post
-walk-down-choose-at-requires t c κs = lies (c .before .before .before .before .before .before .before .before .before .before .before .before .before .args .p) (c .before .before .before .before .before .used-at .result) (c .before .before .before .before .before .before .before .before .before .strike-at .last .0) (c .before .before .before .before .before .before .before .before .before .before .before .before .before .args .q .now) (c .before .before .before .before .before .before .before .before .before .before .before .before .before .args .s .place) (may-walk-struck (c .before .before .before .before .before .before .before .before .before .before .before .before .before .args .n) (c .before .before .before .before .before .before .before .before .before .before .before .before .before .args .v) (c .before .before .before .before .before .before .before .before .before .before .before .before .before .args .p) (c .before .before .before .before .before .before .before .before .before .strike-at .result) (c .before .before .before .before .before .before .before .before .before .before .before .before .before .args .t .now) (c .before .before .before .before .before .before .before .before .before .strike-at .last .0) (c .before .before .before .before .before .before .before .before .before .before .before .before .before .args .q .now) (c .before .before .before .before .before .before .before .before .before .before .before .before .before .args .s) (c .before .before .before .before .before .before .before .before .before .before .before .before .before .pre .1) (c .before .before .before .before .before .before .before .before .before .strike-at .ensures)) (c .before .before .before .before .before .used-at .ensures) (c .before .before .before .before .if2 .left)
+walk-down-choose-at-requires t c κs = search lies
 
 walk-down-child-lying-requires : (t : ℕ) → walk-down-lts.Need-child-lying-requires (calls t) (walk-down-at t) walk-down.Post
-walk-down-child-lying-requires t c κs = (may-walk-struck (c .before .before .before .before .before .before .before .before .before .before .before .before .before .before .before .args .n) (c .before .before .before .before .before .before .before .before .before .before .before .before .before .before .before .args .v) (c .before .before .before .before .before .before .before .before .before .before .before .before .before .before .before .args .p) (c .before .before .before .before .before .before .before .before .before .before .before .strike-at .result) (c .before .before .before .before .before .before .before .before .before .before .before .before .before .before .before .args .t .now) (c .before .before .before .before .before .before .before .before .before .before .before .strike-at .last .0) (c .before .before .before .before .before .before .before .before .before .before .before .before .before .before .before .args .q .now) (c .before .before .before .before .before .before .before .before .before .before .before .before .before .before .before .args .s) (c .before .before .before .before .before .before .before .before .before .before .before .before .before .before .before .pre .1) (c .before .before .before .before .before .before .before .before .before .before .before .strike-at .ensures)) .fits
+walk-down-child-lying-requires t c κs = search needs
+
+walk-down-sub-strike-at : (t : ℕ) → walk-down-lts.Need-sub-strike-at (calls t) (walk-down-at t) walk-down.Post
+walk-down-sub-strike-at t c = search needs
+
+walk-down-cast-strike-at : (t : ℕ) → walk-down-lts.Need-cast-strike-at (calls t) (walk-down-at t) walk-down.Post
+walk-down-cast-strike-at t c = search needs
+
+walk-down-strike-at-requires : (t : ℕ) → walk-down-lts.Need-strike-at-requires (calls t) (walk-down-at t) walk-down.Post
+walk-down-strike-at-requires t c κs = search may-strike-child
 
 walk-down-sub-walk-down : (t : ℕ) → walk-down-lts.Need-sub-walk-down (calls t) (walk-down-at t) walk-down.Post
-walk-down-sub-walk-down t c = omega (arith, c .before .before .before .before .before .before .before .before .before .before .before .before .before .before .before .if1 .left)
+walk-down-sub-walk-down t c = search needs
 
 walk-down-cast-walk-down : (t : ℕ) → walk-down-lts.Need-cast-walk-down (calls t) (walk-down-at t) walk-down.Post
 walk-down-cast-walk-down t c = search needs
 
-walk-down-walk-down-requires : (t : ℕ) → walk-down-lts.Need-walk-down-requires (calls t) (walk-down-at t) walk-down.Post
-walk-down-walk-down-requires t c κs = (omega (arith, c .before .before .before .before .before .before .before .before .before .before .before .before .before .before .before .before .before .pre .0, c .before .before .before .before .before .before .before .before .before .before .before .before .before .before .before .if1 .left), may-go-down (c .before .before .before .before .before .before .before .before .before .before .before .before .before .before .before .before .before .args .n) (c .before .before .before .before .before .before .before .before .before .before .before .before .before .before .before .before .before .args .v) (c .before .before .before .before .before .before .before .before .before .before .before .before .before .before .before .before .before .args .p) (c .before .before .before .before .before .before .before .before .before .before .before .before .before .strike-at .result) (c .before .before .before .before .before .before .before .before .before .used-at .result) (c .before .before .before .before .before .before .before .before .before .before .before .before .before .before .before .before .before .args .t .now) (c .before .before .before .before .before .before .before .before .before .before .before .before .before .strike-at .last .0) (c .before .before .before .before .before .before .before .before .before .before .before .before .before .before .before .before .before .args .q .now) (c .before .before .before .before .before .before .before .before .before .before .before .before .before .before .before .before .before .args .s) (c .before .before .before .before .before .before .before .before .before .before .before .before .before .before .before .before .before .pre .1) (c .before .before .before .before .before .before .before .before .before .before .before .before .before .strike-at .ensures) (c .before .before .before .before .before .before .before .before .before .used-at .ensures) (c .before .before .before .before .before .before .scan-index .result) (c .before .before .before .before .before .before .before .before .if2 .left) (c .before .before .before .before .before .before .before .before .before .before .before .before .before .before .before .if1 .left) (c .before .before .before .before .before .before .scan-index .ensures) (c .before .before .before .choose-at .result) (c .before .child-lying .result) (c .before .before .before .before .before .if3 .left) (c .before .before .before .choose-at .ensures) (c .before .child-lying .ensures))
-
-walk-down-come-back-requires : (t : ℕ) → walk-down-lts.Need-come-back-requires (calls t) (walk-down-at t) walk-down.Post
-walk-down-come-back-requires t c κs = may-come-back (c .before .before .before .before .before .before .before .before .before .before .before .before .before .before .before .before .before .before .before .before .before .args .n) (c .before .before .before .before .before .before .before .before .before .before .before .before .before .before .before .before .before .before .before .before .before .args .v) (c .before .before .before .before .before .before .before .before .before .before .before .before .before .before .before .before .before .before .before .before .before .args .p) (c .before .before .before .before .before .before .before .before .before .before .before .before .before .before .before .before .before .strike-at .result) (c .before .before .before .before .before .before .before .before .before .before .before .before .before .used-at .result) (c .before .before .before .before .before .before .before .before .before .before .before .before .before .before .before .before .before .before .before .before .before .args .t .now) (c .before .before .before .before .before .before .before .before .before .before .before .before .before .before .before .before .before .strike-at .last .0) (c .before .before .before .before .before .before .before .before .before .before .before .before .before .before .before .before .before .before .before .before .before .args .q .now) (c .before .before .before .before .before .before .before .before .before .before .before .before .before .before .before .before .before .before .before .before .before .args .s) (c .before .before .before .before .before .before .before .before .before .before .before .before .before .before .before .before .before .before .before .before .before .pre .1) (c .before .before .before .before .before .before .before .before .before .before .before .before .before .before .before .before .before .strike-at .ensures) (c .before .before .before .before .before .before .before .before .before .before .before .before .before .used-at .ensures) (c .before .before .before .before .before .before .before .before .before .before .scan-index .result) (c .before .before .before .before .before .before .before .before .before .before .before .before .if2 .left) (c .before .before .before .before .before .before .before .before .before .before .before .before .before .before .before .before .before .before .before .if1 .left) (c .before .before .before .before .before .before .before .before .before .before .scan-index .ensures) (c .before .before .before .before .before .before .before .choose-at .result) (c .before .before .before .before .before .child-lying .result) (c .before .before .before .before .before .before .before .before .before .if3 .left) (c .before .before .before .before .before .before .before .choose-at .ensures) (c .before .before .before .before .before .child-lying .ensures) (c .before .before .before .walk-down .last .0) (c .before .before .before .walk-down .result) (c .before .before .before .walk-down .ensures)
-
 walk-down-more-struck-requires : (t : ℕ) → walk-down-lts.Need-more-struck-requires (calls t) (walk-down-at t) walk-down.Post
 walk-down-more-struck-requires t c κs = tt
 
-walk-down-same-length-4 : (t : ℕ) → walk-down-lts.Need-same-length-4 (calls t) (walk-down-at t) walk-down.Post
-walk-down-same-length-4 t c = c .before .before .before .before .come-back .ensures .same-length ∙ c .before .before .before .before .before .before .before .before .walk-down .ensures .same-length ∙ c .before .before .before .before .before .before .before .before .before .before .before .before .before .before .before .before .before .before .before .before .before .before .strike-at .ensures .same-length
+walk-down-walk-down-requires : (t : ℕ) → walk-down-lts.Need-walk-down-requires (calls t) (walk-down-at t) walk-down.Post
+walk-down-walk-down-requires t c κs =
+    let struck = c .before .before .before .before in
+    let child = struck .before .before in
+    let chosen = child .before .before in
+    let on = chosen .before .before in
+    let found = on .before in
+    let index = found .before .before in
+    let start = index .before .before in (
+      search needs,
+      (
+        may-go-down start.args.n start.args.v start.args.p start.args.struck start.args.t.now start.args.q.now start.args.s found.scan-index.result
+            start.pre.1.0 index.if1.left found.scan-index.ensures chosen.choose-at.result child.child-lying.result on.if2.left chosen.choose-at.ensures child.child-lying.ensures
+            struck.strike-at.result struck.strike-at.last.0 struck.strike-at.ensures,
+        search needs,
+      ),
+    )
 
-walk-down-returns-4 : (t : ℕ) → walk-down-lts.Need-returns-4 (calls t) (walk-down-at t) walk-down.Post
-walk-down-returns-4 t c = came-back (c .before .before .before .before .before .before .before .before .before .before .before .before .before .before .before .before .before .before .before .before .before .before .before .before .before .before .args .n) (c .before .before .before .before .before .before .before .before .before .before .before .before .before .before .before .before .before .before .before .before .before .before .before .before .before .before .args .v) (c .before .before .before .before .before .before .before .before .before .before .before .before .before .before .before .before .before .before .before .before .before .before .before .before .before .before .args .p) (c .before .before .before .before .before .before .before .before .before .before .before .before .before .before .before .before .before .before .before .before .before .before .strike-at .result) (c .before .before .before .before .before .before .before .before .before .before .before .before .before .before .before .before .before .before .used-at .result) (c .before .before .before .before .before .before .before .before .before .before .before .before .before .before .before .before .before .before .before .before .before .before .before .before .before .before .args .t .now) (c .before .before .before .before .before .before .before .before .before .before .before .before .before .before .before .before .before .before .before .before .before .before .strike-at .last .0) (c .before .before .before .before .before .before .before .before .before .before .before .before .before .before .before .before .before .before .before .before .before .before .before .before .before .before .args .q .now) (c .before .before .before .before .before .before .before .before .before .before .before .before .before .before .before .before .before .before .before .before .before .before .before .before .before .before .args .s) (c .before .before .before .before .before .before .before .before .before .before .before .before .before .before .before .before .before .before .before .before .before .before .before .before .before .before .pre .1) (c .before .before .before .before .before .before .before .before .before .before .before .before .before .before .before .before .before .before .before .before .before .before .strike-at .ensures) (c .before .before .before .before .before .before .before .before .before .before .before .before .before .before .before .before .before .before .used-at .ensures) (c .before .before .before .before .before .before .before .before .before .before .before .before .before .before .before .scan-index .result) (c .before .before .before .before .before .before .before .before .before .before .before .before .before .before .before .before .before .if2 .left) (c .before .before .before .before .before .before .before .before .before .before .before .before .before .before .before .before .before .before .before .before .before .before .before .before .if1 .left) (c .before .before .before .before .before .before .before .before .before .before .before .before .before .before .before .scan-index .ensures) (c .before .before .before .before .before .before .before .before .before .before .before .before .choose-at .result) (c .before .before .before .before .before .before .before .before .before .before .child-lying .result) (c .before .before .before .before .before .before .before .before .before .before .before .before .before .before .if3 .left) (c .before .before .before .before .before .before .before .before .before .before .before .before .choose-at .ensures) (c .before .before .before .before .before .before .before .before .before .before .child-lying .ensures) (c .before .before .before .before .before .before .before .before .walk-down .last .0) (c .before .before .before .before .before .before .before .before .walk-down .result) (c .before .before .before .before .before .before .before .before .walk-down .ensures) _ _ _ (c .before .before .before .before .come-back .ensures) (c .more-struck .ensures)
+walk-down-come-back-requires : (t : ℕ) → walk-down-lts.Need-come-back-requires (calls t) (walk-down-at t) walk-down.Post
+walk-down-come-back-requires t c κs =
+    let below = c .before .before .before in
+    let more = below .before in
+    let struck = more .before .before .before .before in
+    let child = struck .before .before in
+    let chosen = child .before .before in
+    let on = chosen .before .before in
+    let found = on .before in
+    let index = found .before .before in
+    let start = index .before .before in
+    may-come-back start.args.n start.args.v start.args.p start.args.struck start.args.t.now start.args.q.now start.args.s found.scan-index.result
+    start.pre.1.0 index.if1.left found.scan-index.ensures chosen.choose-at.result child.child-lying.result on.if2.left chosen.choose-at.ensures child.child-lying.ensures
+    struck.strike-at.result struck.strike-at.last.0 struck.strike-at.ensures more.more-struck.result below.walk-down.last.0 below.walk-down.result
+    more.more-struck.ensures below.walk-down.ensures start.pre.1.1
+
+walk-down-same-length-3 : (t : ℕ) → walk-down-lts.Need-same-length-3 (calls t) (walk-down-at t) walk-down.Post
+walk-down-same-length-3 t c = search needs
+
+walk-down-returns-3 : (t : ℕ) → walk-down-lts.Need-returns-3 (calls t) (walk-down-at t) walk-down.Post
+walk-down-returns-3 t c =
+    let back = c .before .before .before in
+    let below = back .before .before .before .before in
+    let more = below .before in
+    let struck = more .before .before .before .before in
+    let child = struck .before .before in
+    let chosen = child .before .before in
+    let on = chosen .before .before in
+    let found = on .before in
+    let index = found .before .before in
+    let start = index .before .before in
+    came-back start.args.n start.args.v start.args.p start.args.struck start.args.t.now start.args.q.now start.args.s found.scan-index.result
+    start.pre.1.0 index.if1.left found.scan-index.ensures chosen.choose-at.result child.child-lying.result on.if2.left chosen.choose-at.ensures child.child-lying.ensures
+    struck.strike-at.result struck.strike-at.last.0 struck.strike-at.ensures more.more-struck.result below.walk-down.last.0 below.walk-down.result
+    more.more-struck.ensures below.walk-down.ensures
+    back.come-back.last.0 back.come-back.result back.come-back.ensures
 
 pub +walk-down-spec : {M : Type 1} → statement M
 +walk-down-spec = close μ-walk-down λ t. walk-down-lts.spec (calls t)
@@ -117,19 +151,18 @@ pub +walk-down-spec : {M : Type 1} → statement M
     (walk-down-at-leaf-requires t)
     (walk-down-same-length t)
     (walk-down-returns t)
-    (walk-down-strike-at-requires t)
-    (walk-down-used-at-requires t)
+    (walk-down-scan-index-requires t)
     (walk-down-same-length-2 t)
     (walk-down-returns-2 t)
-    (walk-down-scan-index-requires t)
-    (walk-down-same-length-3 t)
-    (walk-down-returns-3 t)
     (walk-down-choose-at-requires t)
     (walk-down-child-lying-requires t)
+    (walk-down-sub-strike-at t)
+    (walk-down-cast-strike-at t)
+    (walk-down-strike-at-requires t)
     (walk-down-sub-walk-down t)
     (walk-down-cast-walk-down t)
+    (walk-down-more-struck-requires t)
     (walk-down-walk-down-requires t)
     (walk-down-come-back-requires t)
-    (walk-down-more-struck-requires t)
-    (walk-down-same-length-4 t)
-    (walk-down-returns-4 t)
+    (walk-down-same-length-3 t)
+    (walk-down-returns-3 t)

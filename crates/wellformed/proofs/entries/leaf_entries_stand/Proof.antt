@@ -4,7 +4,7 @@ use Rattle.wellformed.specs.PassLaws.{leaf-turn, every-turn, every-end}
 use Rattle.pages.specs.Words.{every, allZero}
 use Rattle.pages.specs.Summary.{inUse}
 use Rattle.pages.specs.Layout.{entryIn, pageAt}
-use Rattle.pages.specs.Laid.{wordsLaid}
+use Rattle.pages.specs.Laid.{wordsLaid, nothing-laid, rest-laid}
 use Rattle.pages.specs.GatherLaws.{in-use-at}
 use lib.ListN.{drop}
 use mathlib.Core.Bool.{true, _&&_}
@@ -24,7 +24,7 @@ nothing-requires : tie.Need-nothing-requires Inv-loop μ-loop
 nothing-requires c κs = tt
 
 loop-holds : tie.Need-loop-holds Inv-loop μ-loop
-loop-holds c = (omega arith, ap (λ b. true && b && every leafEntryStands (inUse (pageAt (c .before .before .args .t .now) (c .before .before .args .p)))) (c .nothing .ensures))
+loop-holds c = (omega arith, ap (λ b. true && b && every leafEntryStands (inUse (pageAt (c .before .before .args .t .now) (c .before .before .args .p)))) (nothing-laid _ (c .nothing .ensures)))
 
 record-stands-requires : tie.Need-record-stands-requires Inv-loop μ-loop
 record-stands-requires c κs = (c .before .before .before .before .pre .0, omega arith)
@@ -39,7 +39,7 @@ loop-less : tie.Need-loop-less Inv-loop μ-loop
 loop-less c = omega arith
 
 loop-again : tie.Need-loop-again Inv-loop μ-loop
-loop-again c = (omega arith, ap (λ b. b && every leafEntryStands (drop (c .before .before .before .loop .i + 1) (inUse (pageAt (c .before .before .before .before .before .before .args .t .now) (c .before .before .before .before .before .before .args .p))))) (leaf-turn (entryIn (c .before .before .before .before .before .before .args .t .now) (c .before .before .before .before .before .before .args .p) (c .before .before .before .loop .i)) (c .before .before .before .loop .stands) (allZero (wordsLaid (c .before .before .before .loop .rest))) (c .before .record-stands .result) (allZero (wordsLaid (c .over-rest .result))) (c .before .record-stands .ensures) (c .over-rest .ensures)) ∙ every-turn leafEntryStands (inUse (pageAt (c .before .before .before .before .before .before .args .t .now) (c .before .before .before .before .before .before .args .p))) (c .before .before .before .loop .stands && allZero (wordsLaid (c .before .before .before .loop .rest))) _ _ (c .before .before .before .loop .i) (omega arith) (ap leafEntryStands (sym (in-use-at (c .before .before .before .before .before .before .args .t .now) (c .before .before .before .before .before .before .args .p) (c .before .before .before .loop .i) (omega arith)))) (c .before .before .before .loop .inv .1))
+loop-again c = (omega arith, ap (λ b. b && every leafEntryStands (drop (c .before .before .before .loop .i + 1) (inUse (pageAt (c .before .before .before .before .before .before .args .t .now) (c .before .before .before .before .before .before .args .p))))) (leaf-turn (entryIn (c .before .before .before .before .before .before .args .t .now) (c .before .before .before .before .before .before .args .p) (c .before .before .before .loop .i)) (c .before .before .before .loop .stands) (allZero (wordsLaid (c .before .before .before .loop .rest))) (c .before .record-stands .result) (allZero (wordsLaid (c .over-rest .result))) (c .before .record-stands .ensures) (rest-laid _ _ _ _ _ (c .before .before .before .before .before .before .pre .0) (omega arith) (c .over-rest .ensures))) ∙ every-turn leafEntryStands (inUse (pageAt (c .before .before .before .before .before .before .args .t .now) (c .before .before .before .before .before .before .args .p))) (c .before .before .before .loop .stands && allZero (wordsLaid (c .before .before .before .loop .rest))) _ _ (c .before .before .before .loop .i) (omega arith) (ap leafEntryStands (sym (in-use-at (c .before .before .before .before .before .before .args .t .now) (c .before .before .before .before .before .before .args .p) (c .before .before .before .loop .i) (omega arith)))) (c .before .before .before .loop .inv .1))
 
 is-zero-requires : tie.Need-is-zero-requires Inv-loop μ-loop
 is-zero-requires c κs = tt

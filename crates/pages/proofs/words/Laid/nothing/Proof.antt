@@ -1,11 +1,10 @@
 -- `pages::words::Laid::nothing` meets its contract.
 use mathlib.Core.Path.{refl}
-use Rattle.pages.specs.Laid.{nothing-laid}
 use Rattle.pages.proofs.words.Laid.nothing.Statement.{statement}
 use Rattle.pages.proofs.words.Laid.nothing.Tie as tie
 
 returns : tie.Need-returns
-returns c = nothing-laid _ refl
+returns c = refl
 
 pub nothing-spec : {M : Type 1} → statement M
 nothing-spec = tie.close (tie.spec returns)

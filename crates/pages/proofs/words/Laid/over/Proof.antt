@@ -1,5 +1,5 @@
 -- `pages::words::Laid::over` meets its contract.
-use Rattle.pages.specs.Laid.{laid-over}
+use Rattle.pages.specs.Laid.{laid-so}
 use borrow.Author.Needs.{needs}
 use Rattle.pages.proofs.words.Laid.over.Statement.{statement}
 use Rattle.pages.proofs.words.Laid.over.Tie as tie
@@ -98,7 +98,7 @@ greater-word-requires-8 : tie.Need-greater-word-requires-8
 greater-word-requires-8 c κs = tt
 
 returns : tie.Need-returns
-returns c = laid-over (c .before .before .before .before .before .before .before .before .before .before .before .before .before .before .before .before .before .args .self) _ (c .before .before .before .before .before .before .before .before .before .before .before .before .before .before .before .before .before .args .t .now) (c .before .before .before .before .before .before .before .before .before .before .before .before .before .before .before .before .before .args .k) (c .before .before .before .before .before .before .before .before .before .before .before .before .before .before .before .before .before .pre) (c .before .before .before .before .before .before .before .before .before .before .before .before .before .before .greater-word .ensures) (c .before .before .before .before .before .before .before .before .before .before .before .before .greater-word2 .ensures) (c .before .before .before .before .before .before .before .before .before .before .greater-word3 .ensures) (c .before .before .before .before .before .before .before .before .greater-word4 .ensures) (c .before .before .before .before .before .before .greater-word5 .ensures) (c .before .before .before .before .greater-word6 .ensures) (c .before .before .greater-word7 .ensures) (c .greater-word8 .ensures)
+returns c = laid-so (c .before .before .before .before .before .before .before .before .before .before .before .before .before .before .before .before .before .args .self) _ (c .before .before .before .before .before .before .before .before .before .before .before .before .before .before .before .before .before .args .t .now) (c .before .before .before .before .before .before .before .before .before .before .before .before .before .before .before .before .before .args .k) (c .before .before .before .before .before .before .before .before .before .before .before .before .before .before .greater-word .ensures) (c .before .before .before .before .before .before .before .before .before .before .before .before .greater-word2 .ensures) (c .before .before .before .before .before .before .before .before .before .before .greater-word3 .ensures) (c .before .before .before .before .before .before .before .before .greater-word4 .ensures) (c .before .before .before .before .before .before .greater-word5 .ensures) (c .before .before .before .before .greater-word6 .ensures) (c .before .before .greater-word7 .ensures) (c .greater-word8 .ensures)
 
 pub over-spec : {M : Type 1} → statement M
 over-spec =

@@ -1,8 +1,6 @@
 -- `pages::words::Laid::over_rest` meets its contract.
-use Rattle.pages.specs.Words.{allZero}
-use Rattle.pages.specs.Laid.{wordsLaid}
 use native.Mathlib.Omega.{arith}
-use Rattle.pages.specs.Laid.{rest-laid, rest-inside}
+use Rattle.pages.specs.Laid.{rest-so, rest-inside}
 use borrow.Author.Needs.{needs}
 use Rattle.pages.proofs.words.Laid.over_rest.Statement.{statement}
 use Rattle.pages.proofs.words.Laid.over_rest.Tie as tie
@@ -23,7 +21,7 @@ over-requires-2 : tie.Need-over-requires-2
 over-requires-2 c κs = rest-inside (c .before .before .before .args .t .now) (c .before .before .before .args .p) (c .before .before .before .args .i) _ (c .before .before .before .pre .0) (c .before .before .before .pre .1) (c .before .entry-start .ensures)
 
 returns : tie.Need-returns
-returns c = rest-laid (c .before .before .before .before .args .t .now) (c .before .before .before .before .args .p) (c .before .before .before .before .args .i) (c .before .before .entry-start .result) (allZero (wordsLaid (c .before .before .before .before .args .self))) (allZero (wordsLaid (c .before .over .result))) (allZero (wordsLaid (c .over2 .result))) (c .before .before .before .before .pre .0) (c .before .before .before .before .pre .1) (c .before .before .entry-start .ensures) (c .before .over .ensures) (c .over2 .ensures)
+returns c = rest-so (c .before .before .before .before .args .self) _ _ (c .before .before .before .before .args .t .now) (c .before .before .before .before .args .p) (c .before .before .before .before .args .i) _ (c .before .before .entry-start .ensures) (c .before .over .ensures) (c .over2 .ensures)
 
 pub over-rest-spec : {M : Type 1} → statement M
 over-rest-spec =
