@@ -30,6 +30,7 @@ pub first-of-march : dayOf (date 1_880 3 1) ≡ Day 60
 unfolding dayOf isDate lengthOfMonth dayNumber daysBeforeYear daysBeforeMonth lengthOfYear total
 first-of-march = refl
 
+-- Rules 9.2, 9.3, 9.4: the theorem before this one, this one, and the one after it.
 pub new-century : dayOf (date 1_900 1 1) ≡ Day 7_305
 unfolding dayOf isDate lengthOfMonth dayNumber daysBeforeYear daysBeforeMonth lengthOfYear total
 new-century = refl
