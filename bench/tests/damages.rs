@@ -1,4 +1,4 @@
-//! Every kind of damage that document 01 names, done to a good book: refused by 4, and questions are answered alike.
+//! Every kind of damage that the rules of a well-formed book name, done to a good book: refused by 4, and questions are answered alike.
 use bench::twice::{five, sides, Call, Lent, Twice};
 use bench::{book, question, Seed, SPARSE};
 use second::PAGE_WORDS;

@@ -160,7 +160,7 @@ pub fn load(image: &[u8], table: &mut [u16], small: &mut Small) -> Result<(), Re
 mod tests {
     use super::*;
 
-    /// Document 01's worked example, but for its lines.
+    /// The worked example of the rules (9.1), but for its lines.
     #[test]
     fn a_day_at_the_counter() {
         let mut table = vec![7; 180 * PAGE_WORDS];

@@ -1,4 +1,4 @@
--- What an answer means: the box-max of source 001 over a list of records, and the pages whose boxes touch the question.
+-- What an answer means: the box-max (Zhang and Tsotras) over a list of records, and the pages whose boxes touch the question.
 use Prim.Native.Nat.{ℕ, _+_, max}
 use mathlib.Core.Bool.{cond}
 use mathlib.Core.List.{List, [], _∷_}
@@ -17,11 +17,11 @@ unfoldable pub greatest : (Entry → ℕ) → List Entry → ℕ
 greatest f [] = 0
 greatest f (e ∷ es) = max (f e) (greatest f es)
 
--- A gust v over a box scores v + 1 if the box touches the question, else 0, which is Nothing.
+-- Rule 1.22: a gust v over a box scores v + 1 if the box touches the question, else 0, which is Nothing.
 unfoldable pub score : Box → Box → ℕ → ℕ
 score q b v = cond (touches q b) (v + 1) 0
 
--- The box-max over records.
+-- Rule 11.3: the box-max over records.
 abbrev pub boxMax : Box → List Entry → ℕ
 boxMax q = greatest (λ e. score q (e .place) (e .gust))
 

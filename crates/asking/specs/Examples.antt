@@ -1,4 +1,4 @@
--- The examples of document 01 that ask, each by computation on a table of 180 pages.
+-- The examples of RULES.md that ask, each by computation on a table of 180 pages.
 use Prim.Native.Nat.{ℕ, _-_}
 use mathlib.Core.List.{List, [], _∷_, _++_}
 use mathlib.Core.Path.{_≡_, refl}
@@ -36,12 +36,12 @@ small root height accepted = record { root = root; height = height; accepted = a
 abbrev oneRecord : List ℕ
 oneRecord = bookWith (pageWith 1 (held (over (to 10 19) (to 10 19) (to 7_305 7_314)) 250 ∷ []) ∷ [])
 
--- P: ask 19 25 19 25 1900-01-10 1900-02-01 gives gust 250, pages 1
+-- Rule 9.1, P: ask 19 25 19 25 1900-01-10 1900-02-01 gives gust 250, pages 1
 pub corner : asked oneRecord (small 0 1 1) (over (to 19 25) (to 19 25) (to 7_314 7_336)) ≡ Gust 250 1
 unfolding asked searchBook searchPage searchOpened searchOne searchRecord raised inOrder mayOpen answered legal touches tableOf pagesOf cutPages pageOf entriesOf entryAt boxAt wordsOfPage wordsOfEntries wordsOfEntry wordsOfBox
 corner = refl
 
--- P: ask 20 25 10 19 1900-01-01 1900-01-10 gives nothing, pages 1
+-- Rule 9.1, P: ask 20 25 10 19 1900-01-01 1900-01-10 gives nothing, pages 1
 pub beside : asked oneRecord (small 0 1 1) (over (to 20 25) (to 10 19) (to 7_305 7_314)) ≡ Nothing 1
 unfolding asked searchBook searchPage searchOpened searchOne searchRecord raised inOrder mayOpen answered legal touches tableOf pagesOf cutPages pageOf entriesOf entryAt boxAt wordsOfPage wordsOfEntries wordsOfEntry wordsOfBox
 beside = refl

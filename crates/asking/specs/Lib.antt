@@ -1,4 +1,4 @@
--- Document 01, "Asking": the definition of the answer, and the laws that the storeys above cite.
+-- Asking, to be read beside section 5 of RULES.md: the definition of the answer, and the laws that the storeys above cite.
 pub mod Asking
 pub mod Gathering
 pub mod Seen

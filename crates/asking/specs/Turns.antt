@@ -335,7 +335,7 @@ pub asked-found : (t : List ℕ) (s : Small) (q : Box) (f l : Bool) (so : Search
 unfolding asked
 asked-found t s q f l so r p h u k n a = rw (sym p ∙ not-false f h, sym u ∙ not-false l k, ← n) a
 
--- the answer in document 01's numbers
+-- the answer in the rules' numbers
 says-answered : (x : Search) → says (answered x) ≡ toldBy x
 unfolding answered toldBy
 says-answered refused = refl

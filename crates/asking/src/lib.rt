@@ -7,13 +7,13 @@ ghost use mathlib.Core.Path.{_≡_};
 ghost use Rattle.asking.specs.Asking.{asked, says, told};
 
 pub enum Asked {
-    // Document 01's number of the refusal.
+    // The refusal's number, by rule 7.22.
     Refused(u8),
     Nothing { pages: u32 },
     Gust { gust: u16, pages: u32 },
 }
 
-// The answer to a question, and what it says in document 01's numbers. Refusals 1, 2 and 4, in this order.
+// The answer to a question, and what it says in the rules' numbers. Refusals 1, 2 and 4, in this order.
 pub fn ask(t: &[u16], s: Small, q: Box) -> Asked
     ensures { λ r. ⌜ (r ≡ asked (now (t .entry)) s q) × (says r ≡ told (now (t .entry)) s q) ⌝ }
 {

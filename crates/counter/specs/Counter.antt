@@ -1,4 +1,4 @@
--- Document 01, "The counter program": every line is answered by the book, and the answers are printed in order.
+-- RULES.md, section 8: every line is answered by the book, and the answers are printed in order.
 use Prim.Native.Nat.{ℕ, zero, suc, _+_}
 use mathlib.Core.Bool.{Bool, true, false}
 use mathlib.Core.List.{List, [], _∷_, _++_}
@@ -21,33 +21,36 @@ use Rattle.lines.specs.declared.reading.Line.the-variants as typed
 use Rattle.rules.specs.Record.{Reply, Reply.Refused, Reply.Answered, recordInto}
 use Rattle.rules.specs.Recording.{Outcome, Outcome.Kept, Outcome.Cut, Outcome.Covered}
 
--- The call that a line is, with the numbers as they were typed. A line of none of the forms is no call.
+-- Rules 8.7, 8.8, 8.9, 8.11: the call that a line is, with the numbers as they were typed. A line of none of the forms is no call.
 unfoldable pub callsOf : Line → List Call
 callsOf (typed.Add b v) = Record (asGiven b) v ∷ []
 callsOf (typed.Ask q) = Ask (asGiven q) ∷ []
 callsOf typed.Count = Count ∷ []
 callsOf typed.Refused = []
 
--- What the book's answers are called when they are printed. Refusals are printed alike.
+-- Rule 8.21: what the book's answers are called when they are printed. Refusals are printed alike.
 unfoldable pub outcomeSays : Outcome → ℕ → Answer
 outcomeSays Kept struck = told.Kept struck
 outcomeSays Cut struck = told.Cut struck
 outcomeSays Covered struck = told.Covered struck
 
+-- Rules 8.21, 8.24.
 unfoldable pub recordSays : Reply → Answer
 recordSays (Refused n) = told.Refused n
 recordSays (Answered a) = outcomeSays (a .outcome) (a .struck)
 
+-- Rules 8.22, 8.24.
 unfoldable pub askSays : Asked → Answer
 askSays (ask.Refused n) = told.Refused n
 askSays (ask.Nothing pages) = told.Nothing pages
 askSays (ask.Gust gust pages) = told.Gust gust pages
 
+-- Rules 8.23, 8.24.
 unfoldable pub countSays : Counted → Answer
 countSays (count.Refused n) = told.Refused n
 countSays (count.Counts accepted held struck covered) = told.Counts accepted held struck covered
 
--- The answer to a line on a book; a line of none of the forms is refused by 9.
+-- Rules 8.10, 7.9: the answer to a line on a book; a line of none of the forms is refused by 9.
 unfoldable pub answerTo : Line → Book → Answer
 answerTo (typed.Add b v) k = recordSays (recordInto (k .table) (k .small) (asGiven b) v .reply)
 answerTo (typed.Ask q) k = askSays (asked (k .table) (k .small) (asGiven q))
@@ -67,7 +70,7 @@ afterAll (c ∷ cs) k = afterAll cs (after c k)
 abbrev pub bookAfter : Line → Book → Book
 bookAfter l k = afterAll (callsOf l) k
 
--- The whole input, line by line. A line ends with byte 10, which the last may lack.
+-- Rule 8.2: the whole input, line by line. A line ends with byte 10, which the last may lack.
 abbrev pub lineEnd : ℕ
 lineEnd = 10
 
@@ -76,11 +79,12 @@ withByte true b ls = [] ∷ ls
 withByte false b [] = (b ∷ []) ∷ []
 withByte false b (l ∷ ls) = (b ∷ l) ∷ ls
 
+-- Rule 8.2.
 unfoldable pub linesOf : List ℕ → List (List ℕ)
 linesOf [] = []
 linesOf (b ∷ bs) = withByte (eqb b lineEnd) b (linesOf bs)
 
--- The whole output: the answers in order, each on the book that the lines before it left.
+-- Rule 8.20: the whole output: the answers in order, each on the book that the lines before it left.
 unfoldable pub served : List (List ℕ) → Book → List ℕ
 served [] k = []
 served (l ∷ ls) k = printed (answerTo (parsed l) k) ++ served ls (bookAfter (parsed l) k)
@@ -104,7 +108,7 @@ pub record Counter : Type 0 where
 abbrev pub opening : Book → Counter
 opening k = record { book = k; line = []; out = [] }
 
--- A line that is too long stays so: one byte more than the longest line is all that is kept of it.
+-- Rules 8.3, 8.10: a line that is too long stays so: one byte more than the longest line is all that is kept of it.
 abbrev pub kept : List ℕ → List ℕ
 kept line = take (longestLine + 1) line
 
@@ -125,7 +129,7 @@ unfoldable pub fed : List ℕ → Counter → Counter
 fed [] c = c
 fed (b ∷ bs) c = fed bs (byByte (eqb b lineEnd) b c)
 
--- The input's end ends a line that has begun.
+-- Rule 8.2: the input's end ends a line that has begun.
 unfoldable pub finishedBy : List ℕ → Counter → Counter
 finishedBy [] c = c
 finishedBy (b ∷ bs) c = ended c

@@ -1,4 +1,4 @@
--- The counter program, to be read beside document 01's section of that name; and, last, what the code does at a line and at a chunk.
+-- The counter program, to be read beside section 8 of RULES.md; and, last, what the code does at a line and at a chunk.
 pub mod Counter
 pub mod CounterLaws
 pub mod Steps

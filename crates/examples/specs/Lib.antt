@@ -1,3 +1,3 @@
--- Document 01's examples marked P, in one list.
+-- The examples marked P in section 9 of RULES.md, in one list.
 pub mod InTurn
 pub mod Marked

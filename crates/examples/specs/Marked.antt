@@ -1,4 +1,4 @@
--- Document 01's examples marked P, in one list: each is a theorem, by computation.
+-- The examples marked P in section 9 of RULES.md, in one list: each is a theorem, by computation.
 use Prim.Native.Nat.{ℕ}
 use mathlib.Core.Bool.{xor, true}
 use mathlib.Core.List.{List, [], _∷_, flatMap, map}
@@ -56,7 +56,7 @@ wider = leafEntry (over 10 29 10 19 7_305 7_314) 250 ∷ []
 abbrev two : List Entry
 two = leafEntry (over 10 29 10 19 7_305 7_314) 250 ∷ leafEntry (over 30 35 10 19 7_305 7_314) 250 ∷ []
 
--- The transcript: each line's answer, with the table and small record that it leaves to the next.
+-- Rule 9.1: the transcript: each line's answer, with the table and small record that it leaves to the next.
 pub record Transcript : Type 0 where
   -- add 10 19 10 19 1900-01-01 1900-01-10 250: kept struck 0
   pub line-1 : recordInto (table []) emptySmall (over 10 19 10 19 7_305 7_314) 250 ≡ says Kept 0 one (small 1 0 0)
@@ -79,7 +79,7 @@ pub transcript : Transcript
 unfolding recordInto refusal recorded fromRoot collapse walkDown goOn goDown append comeBack exactAt settle splitPage choose leastGrown goesBefore growth scan scanEntry candidate strike strikeOne strikeAll select cut cutsOn coversOneEnd left leftOn xor covers touches join size summaryOf summary covering firstGreatest leastOf lowestFrom freeCount pageFrom wellFormed pagesStand rootStands everyBelow childrenLower isLower children every reachedOnce times walk pageStands countStands entriesStand leafEntryStands isExact sameWords countsStand heldRecords leafEntries flatMap legal tableOf pagesOf cutPages pageOf entriesOf entryAt boxAt wordsOfPage wordsOfEntries wordsOfEntry wordsOfBox asked searchBook searchPage searchOpened searchOne searchRecord raised inOrder mayOpen askedBy
 transcript = record { line-1 = refl; line-2 = refl; line-3 = refl; line-4 = refl; line-5 = refl; line-6 = refl; line-7 = refl; line-8 = refl }
 
--- Held 15 to 20, new 10 to 29 weaker, other axes equal: not cut, since two ends would stay. The new one is stored whole beside the held one.
+-- Rule 9.5: held 15 to 20, new 10 to 29 weaker, other axes equal: not cut, since two ends would stay. The new one is stored whole beside the held one.
 abbrev short : List Entry
 short = leafEntry (over 15 20 10 19 7_305 7_314) 250 ∷ []
 
@@ -94,7 +94,7 @@ pub two-ends-stay : TwoEnds
 unfolding recordInto refusal recorded fromRoot collapse walkDown goOn goDown append comeBack exactAt settle splitPage choose leastGrown goesBefore growth scan scanEntry candidate strike strikeOne strikeAll select cut cutsOn coversOneEnd left leftOn xor covers touches join size summaryOf summary covering firstGreatest leastOf lowestFrom freeCount pageFrom wellFormed pagesStand rootStands everyBelow childrenLower isLower children every reachedOnce times walk pageStands countStands entriesStand leafEntryStands isExact sameWords countsStand heldRecords leafEntries flatMap legal tableOf pagesOf cutPages pageOf entriesOf entryAt boxAt wordsOfPage wordsOfEntries wordsOfEntry wordsOfBox
 two-ends-stay = record { held = refl; weaker = refl }
 
--- Nine records of gust 100, one cell each, north 0, day 0, east 0, 10 .. 80 in order, as calls on the program's 180 pages, cleared.
+-- Rule 9.6: nine records of gust 100, one cell each, north 0, day 0, east 0, 10 .. 80 in order, as calls on the program's 180 pages, cleared.
 abbrev reports : List Report
 reports = map (λ x. record { box = over x x 0 0 0 0; gust = 100 }) (0 ∷ 10 ∷ 20 ∷ 30 ∷ 40 ∷ 50 ∷ 60 ∷ 70 ∷ 80 ∷ [])
 
@@ -130,7 +130,7 @@ nine-in-a-row =
     ∙ ap (λ (ps : List Page). bookOf (inTurn ps emptySmall reports)) pages
     ∙ ap bookOf nine-by-the-rules
 
--- Asking there, east 75 to 79, gives nothing, 2 pages; 45 to 65 gives 100, 2 pages.
+-- Rule 9.7: asking there, east 75 to 79, gives nothing, 2 pages; 45 to 65 gives 100, 2 pages.
 abbrev askIn : Box → Book → Asked
 askIn q k = asked (k .table) (k .small) q
 

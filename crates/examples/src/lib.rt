@@ -1,1 +1,1 @@
-// Theorems alone: document 01's marked examples, in a crate of their own because they take long to compute.
+// Theorems alone: the marked examples of RULES.md, in a crate of their own because they take long to compute.

@@ -1,5 +1,4 @@
--- Document 01, "Recording", step 3: what one candidate c does to the box b that is being recorded.
--- "If a candidate covers b, the record is Covered. If it covers b on two axes, touches it, and covers exactly one end of b on the third, b is cut there to what is left."
+-- RULES.md, section 4, step 3: what one candidate c does to the box b that is being recorded. It covers b, cuts it, or leaves it as it is.
 use Prim.Native.Nat.{ℕ, _+_, _-_}
 use mathlib.Core.Bool.{Bool, _&&_, cond, xor}
 use Rattle.ground.specs.Boxes.{holds, touchesOn, touches, coversOn, covers}
@@ -28,14 +27,15 @@ coversBeside east c b = coversOn (c .north) (b .north) && coversOn (c .day) (b .
 coversBeside north c b = coversOn (c .east) (b .east) && coversOn (c .day) (b .day)
 coversBeside day c b = coversOn (c .east) (b .east) && coversOn (c .north) (b .north)
 
--- c covers exactly one end of b
+-- Rule 4.35: c covers exactly one end of b
 unfoldable pub coversOneEnd : Range → Range → Bool
 coversOneEnd c b = xor (holds c (b .low)) (holds c (b .high))
 
+-- Rule 4.35: c cuts b on an axis if it covers b on the two others, touches it, and covers exactly one end of it there
 unfoldable pub cutsOn : Axis → Box → Box → Bool
 cutsOn x c b = coversBeside x c b && touches c b && coversOneEnd (on x c) (on x b)
 
--- what is left of b, and what is cut away: past c if c covers b's low end, before c if it covers the high end
+-- Rule 4.36: what is left of b, and what is cut away: past c if c covers b's low end, before c if it covers the high end
 unfoldable pub leftOn : Range → Range → Range
 leftOn c b = cond (holds c (b .low)) (record { low = c .high + 1; high = b .high }) (record { low = b .low; high = c .low - 1 })
 
@@ -52,7 +52,7 @@ left x c b = at x (leftOn (on x c) (on x b)) b
 unfoldable pub away : Axis → Box → Box → Box
 away x c b = at x (awayOn (on x c) (on x b)) b
 
--- The rule.
+-- Rules 4.34, 4.35, 4.36: covered, or cut on an axis, or unchanged.
 unfoldable pub cut : Box → Box → Cut
 cut c b =
     cond (covers c b) Covered

@@ -19,17 +19,18 @@ lastYear = 2_039
 abbrev pub leap : ℕ → Bool
 leap y = eqb (y % 4) 0
 
+-- Rule 1.33: the days of a year.
 unfoldable pub lengthOfYear : ℕ → ℕ
 lengthOfYear y = cond (leap y) 366 365
 
--- Month lengths stand in a table of twelve, with February by the year. No year has a month 0 or 13.
+-- Rule 1.34: month lengths stand in a table of twelve, with February by the year. No year has a month 0 or 13.
 abbrev pub monthLengths : List ℕ
 monthLengths = 31 ∷ 28 ∷ 31 ∷ 30 ∷ 31 ∷ 30 ∷ 31 ∷ 31 ∷ 30 ∷ 31 ∷ 30 ∷ 31 ∷ []
 
 unfoldable pub lengthOfMonth : ℕ → ℕ → ℕ
 lengthOfMonth y m = cond (eqb m 2 && leap y) 29 (getD (0 ∷ monthLengths) m 0)
 
--- A date of the calendar: a year from 1880 to 2039, and a day from 1 to the length of its month.
+-- Rule 1.32: a date of the calendar has a year from 1880 to 2039, and a day from 1 to the length of its month.
 unfoldable pub isDate : Date → Bool
 isDate d = leb firstYear (d .year) && leb (d .year) lastYear && leb 1 (d .day) && leb (d .day) (lengthOfMonth (d .year) (d .month))
 
@@ -40,7 +41,7 @@ daysBeforeYear y = total (λ n. lengthOfYear (firstYear + n)) (y - firstYear)
 unfoldable pub daysBeforeMonth : ℕ → ℕ → ℕ
 daysBeforeMonth y m = total (λ n. lengthOfMonth y (n + 1)) (m - 1)
 
--- The number of a date is the number of days before it; day 0 is the first of January 1880.
+-- Rule 1.31: the number of a date is the number of days before it; day 0 is the first of January 1880.
 unfoldable pub dayNumber : Date → ℕ
 dayNumber d = daysBeforeYear (d .year) + daysBeforeMonth (d .year) (d .month) + (d .day - 1)
 

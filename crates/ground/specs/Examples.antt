@@ -1,4 +1,4 @@
--- The examples of document 01 that belong to the ground floor, each by computation.
+-- The examples of RULES.md, section 9, that belong to the ground floor, each by computation.
 use mathlib.Core.Bool.{true, false, xor}
 use mathlib.Core.Path.{_≡_, refl}
 use Prim.Native.Nat.{ℕ}
@@ -30,6 +30,7 @@ pub first-of-march : dayOf (date 1_880 3 1) ≡ Day 60
 unfolding dayOf isDate lengthOfMonth dayNumber daysBeforeYear daysBeforeMonth lengthOfYear total
 first-of-march = refl
 
+-- Rules 9.2, 9.3, 9.4: the theorem before this one, this one, and the one after it.
 pub new-century : dayOf (date 1_900 1 1) ≡ Day 7_305
 unfolding dayOf isDate lengthOfMonth dayNumber daysBeforeYear daysBeforeMonth lengthOfYear total
 new-century = refl
@@ -51,7 +52,7 @@ pub thirtieth-of-february : dayOf (date 1_904 2 30) ≡ NoSuchDate
 unfolding dayOf isDate lengthOfMonth
 thirtieth-of-february = refl
 
--- P: held 15 to 20, new 10 to 29, other axes equal: not cut, since two ends would stay
+-- Rule 9.5, P: held 15 to 20, new 10 to 29, other axes equal: not cut, since two ends would stay
 pub two-ends-stay : cut (eastOnly (to 15 20)) (eastOnly (to 10 29)) ≡ Unchanged
 unfolding cut cutsOn coversOneEnd covers touches xor
 two-ends-stay = refl
@@ -61,14 +62,14 @@ pub one-end-stays : cut (eastOnly (to 10 29)) (eastOnly (to 15 35)) ≡ Left (ea
 unfolding cut cutsOn coversOneEnd covers touches xor left leftOn
 one-end-stays = refl
 
--- ranges 5 to 10 and 11 to 20 do not touch, and 5 to 10 and 10 to 20 do
+-- Rule 1.18: ranges 5 to 10 and 11 to 20 do not touch, and 5 to 10 and 10 to 20 do
 pub neighbours : touchesOn (to 5 10) (to 11 20) ≡ false
 neighbours = refl
 
 pub shared-end : touchesOn (to 5 10) (to 10 20) ≡ true
 shared-end = refl
 
--- east high 4,095 passes, 4,096 not; gust 1,200 passes, 1,201 is refused
+-- Rule 9.8: east high 4,095 passes, 4,096 not; gust 1,200 passes, 1,201 is refused
 pub widest : legal (eastOnly (to 0 4_095)) ≡ true
 unfolding legal
 widest = refl

@@ -1,4 +1,4 @@
--- The ground floor's definitions, to be read beside document 01, "What the book is", and the laws that the storeys above cite.
+-- The ground floor's definitions, to be read beside section 1 of RULES.md, and the laws that the storeys above cite.
 pub mod Boxes
 pub mod Cutting
 pub mod Dates

@@ -1,4 +1,4 @@
--- Document 01's transcript, input bytes to output bytes, on the program's own 180 pages, by computation.
+-- The transcript of rule 9.1, input bytes to output bytes, on the program's own 180 pages, by computation.
 use Prim.Native.Nat.{ℕ}
 use mathlib.Core.Bool.{xor}
 use mathlib.Core.List.{List, [], flatMap}
@@ -25,7 +25,7 @@ use Rattle.rules.specs.Recording.{growth, goesBefore, leastGrown, choose, split
 use Rattle.rules.specs.Record.{refusal, recordInto}
 use Rattle.counter.specs.Counter.{callsOf, outcomeSays, recordSays, askSays, countSays, answerTo, afterAll, ended, longer, byByte, fed, finishedBy, finished}
 
--- the program's table of 180 empty pages, cleared
+-- Rule 8.1: the program's table of 180 empty pages, cleared
 abbrev pub opened : Book
 opened = record { table = emptyTable (replicate 30_600 0); small = emptySmall }
 
@@ -39,6 +39,7 @@ printedOut =
     text
     "kept struck 0\ngust 250 pages 1\nnothing pages 1\nkept struck 1\ncut struck 0\ncovered struck 0\nrefused 2\naccepted 4 held 2 struck 1 covered 1\n"
 
+-- Rule 9.1.
 pub transcript : finished (fed typedIn (record { book = opened; line = []; out = [] })) .out ≡ printedOut
 unfolding fed byByte longer ended finishedBy answerTo afterAll callsOf recordSays outcomeSays askSays countSays emptyTable withByte words areDigits numberFrom isA value areA values same command commandOf parsed isDate lengthOfMonth dayNumber daysBeforeYear daysBeforeMonth lengthOfYear total decimalOf printed recordInto refusal recorded fromRoot collapse walkDown goOn goDown append comeBack exactAt settle splitPage choose leastGrown goesBefore growth scan scanEntry candidate strike strikeOne strikeAll select cut cutsOn coversOneEnd left leftOn xor covers touches join size summaryOf summary covering firstGreatest leastOf lowestFrom freeCount pageFrom wellFormed pagesStand rootStands everyBelow childrenLower isLower children every reachedOnce times walk pageStands countStands entriesStand leafEntryStands isExact sameWords countsStand heldRecords leafEntries flatMap legal tableOf pagesOf cutPages pageOf entriesOf entryAt boxAt wordsOfPage wordsOfEntries wordsOfEntry wordsOfBox asked searchBook searchPage searchOpened searchOne searchRecord raised inOrder mayOpen askedBy counted
 transcript = refl

@@ -1,3 +1,3 @@
--- Document 01's transcript by computation, and what the whole program promises.
+-- The transcript of rule 9.1 by computation, and what the whole program promises.
 pub mod Examples
 pub mod Program

@@ -14,14 +14,14 @@ use Rattle.pages.specs.declared.Small.{Small}
 use Rattle.rules.specs.Record.{Reply, Reply.Refused, Reply.Answered, Called}
 use Rattle.rules.specs.Recording.{Outcome, Outcome.Kept, Outcome.Cut, Outcome.Covered}
 
--- The small record is five numbers: root, height, accepted, struck, covered.
+-- Rule 2.4: the small record is five numbers: root, height, accepted, struck, covered.
 abbrev pub smallOf : List ℕ → Small
 smallOf w = record { root = getD w 0 0; height = getD w 1 0; accepted = getD w 2 0; struck = getD w 3 0; covered = getD w 4 0 }
 
 abbrev pub numbersOf : Small → List ℕ
 numbersOf s = s .root ∷ s .height ∷ s .accepted ∷ s .struck ∷ s .covered ∷ []
 
--- A box is six numbers, as great as they are: east low, east high, north low, north high, day low, day high.
+-- Rule 2.15: a box is six numbers, as great as they are: east low, east high, north low, north high, day low, day high.
 abbrev pub wideOf : List ℕ → WideBox
 wideOf w =
     record {
@@ -47,12 +47,13 @@ pub record Told : Type 0 where
   pub refusal : ℕ
   pub answer : List ℕ
 
--- Recording: 0 kept, 1 cut, 2 covered; then the struck count.
+-- Rules 4.81, 4.82: recording: 0 kept, 1 cut, 2 covered; then the struck count.
 abbrev pub outcomeNumber : Outcome → ℕ
 outcomeNumber Kept = 0
 outcomeNumber Cut = 1
 outcomeNumber Covered = 2
 
+-- Rule 7.32: a refusal leaves the answer's numbers as they were lent.
 abbrev pub recordTold : Reply → List ℕ → Told
 recordTold (Refused number) lent = record { refusal = number; answer = lent }
 recordTold (Answered a) lent = record { refusal = 0; answer = outcomeNumber (a .outcome) ∷ a .struck ∷ [] }
@@ -65,13 +66,13 @@ pub record Recorded : Type 0 where
 abbrev pub recordLeaves : Called → List ℕ → Recorded
 recordLeaves c lent = record { told = recordTold (c .reply) lent; table = c .table; small = numbersOf (c .small) }
 
--- Asking: 1 and the gust, or 0 and 0 for nothing; then the pages opened.
+-- Rule 5.13: asking: 1 and the gust, or 0 and 0 for nothing; then the pages opened.
 abbrev pub askTold : Asked → List ℕ → Told
 askTold (say.Refused number) lent = record { refusal = number; answer = lent }
 askTold (say.Nothing pages) lent = record { refusal = 0; answer = 0 ∷ 0 ∷ pages ∷ [] }
 askTold (say.Gust gust pages) lent = record { refusal = 0; answer = 1 ∷ gust ∷ pages ∷ [] }
 
--- Counting: accepted, held, struck, covered.
+-- Rule 1.4: counting: accepted, held, struck, covered.
 abbrev pub countTold : Counted → List ℕ → Told
 countTold (tell.Refused number) lent = record { refusal = number; answer = lent }
 countTold (tell.Counts accepted held struck covered) lent = record { refusal = 0; answer = accepted ∷ held ∷ struck ∷ covered ∷ [] }

@@ -1,8 +1,8 @@
--- Document 01, "Saved image": numbers and words as bytes. All low byte first.
+-- RULES.md, section 6: numbers and words as bytes.
 use mathlib.Core.List.{List, [], _∷_, _++_}
 use Prim.Native.Nat.{ℕ, zero, suc, _+_, _*_, _/_, _%_}
 
--- A number as so many bytes.
+-- Rule 6.2: a number as so many bytes, the low byte first.
 unfoldable pub lowFirst : ℕ → ℕ → List ℕ
 lowFirst zero x = []
 lowFirst (suc n) x = x % 256 ∷ lowFirst n (x / 256)
@@ -18,7 +18,7 @@ unfoldable pub number : List ℕ → ℕ
 number [] = 0
 number (b ∷ bs) = b + 256 * number bs
 
--- Each word as its two bytes, in order.
+-- Rule 6.2: each word as its two bytes, in order.
 unfoldable pub wordBytes : List ℕ → List ℕ
 wordBytes [] = []
 wordBytes (w ∷ ws) = bytes16 w ++ wordBytes ws

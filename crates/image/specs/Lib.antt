@@ -1,4 +1,4 @@
--- The image's definitions, to be read beside document 01, "Saved image", and the laws that the storeys above cite.
+-- The image's definitions, to be read beside section 6 of RULES.md, and the laws that the storeys above cite.
 pub mod Bytes
 pub mod Image
 pub mod ByteLaws

@@ -1,4 +1,4 @@
--- Document 01, "When the book says no": clearing, counting, saving and loading. A refusal returns its number, and all stays unchanged; but loading that ends in 4 leaves the empty book.
+-- RULES.md, section 7: clearing, counting, saving and loading.
 use Prim.Native.Nat.{ℕ, _*_}
 use mathlib.Core.Bool.{not, cond}
 use mathlib.Core.List.{List}
@@ -21,17 +21,19 @@ pub record Left : Type 0 where
   pub table : List ℕ
   pub small : Small
 
+-- Rules 7.31, 7.32: a refusal returns its number, and all stays unchanged.
 abbrev pub unchanged : ℕ → List ℕ → Small → Left
 unchanged n t s = record { refusal = n; table = t; small = s }
 
+-- Rules 2.33, 7.33: clearing makes the empty book, and loading that ends in 4 leaves it.
 abbrev pub emptyBook : ℕ → List ℕ → Left
 emptyBook n t = record { refusal = n; table = emptyTable t; small = emptySmall }
 
--- Clearing: 1.
+-- Rule 7.26: clearing gives 1.
 unfoldable pub cleared : List ℕ → Small → Left
 cleared t s = cond (tableFits t) (emptyBook 0 t) (unchanged 1 t s)
 
--- Counting: 1, 4. The answer is a refusal's number, or the four numbers: accepted, held, struck, covered.
+-- Rules 1.4, 7.23: counting: 1, 4. The answer is a refusal's number, or the four numbers: accepted, held, struck, covered.
 pub data CountSaid : Type 0 where
   NotCounted : ℕ → CountSaid
   Numbers : ℕ → ℕ → ℕ → ℕ → CountSaid
@@ -55,7 +57,7 @@ caseOf (Numbers accepted held struck covered) = Counts accepted held struck cove
 unfoldable pub counted : List ℕ → Small → Counted
 counted t s = caseOf (countAnswer t s)
 
--- Saving: 1, 7, 4. The buffer must have the image's length.
+-- Rules 7.24, 7.7: saving gives 1, 7, 4. The buffer must have the image's length.
 unfoldable pub saveRefusal : List ℕ → Small → List ℕ → ℕ
 saveRefusal t s out =
     firstOf (not (tableFits t)) 1
@@ -67,10 +69,11 @@ pub record Saved : Type 0 where
   pub refusal : ℕ
   pub buffer : List ℕ
 
+-- Rules 6.1, 6.5, 7.32: the image in the book's form, or the buffer as it was.
 unfoldable pub saved : List ℕ → Small → List ℕ → Saved
 saved t s out = let n = saveRefusal t s out in record { refusal = n; buffer = cond (eqb n 0) (imageOf imageForm t s) out }
 
--- Loading: 7, 1, 8 and 4. P is the number of pages that the image's length tells.
+-- Rules 7.25, 7.1, 7.8: loading gives 7, 1, 8 and 4. P is the number of pages that the image's length tells.
 abbrev pub pagesRefusal : List ℕ → List ℕ → ImagePages → ℕ
 pagesRefusal image t WrongSize = 7
 pagesRefusal image t (Pages p) =
@@ -85,6 +88,7 @@ imageRefusal image t = pagesRefusal image t (imagePages (length image))
 abbrev pub imageSmall : List ℕ → Small
 imageSmall image = smallOf (trailerOf image)
 
+-- Rules 6.7, 7.4, 7.33: the image's pages and small record, or the empty book.
 abbrev pub loadedPages : List ℕ → List ℕ → Left
 loadedPages image t = cond (wellFormed (imageTable image) (imageSmall image)) (unchanged 0 (imageTable image) (imageSmall image)) (emptyBook 4 t)
 

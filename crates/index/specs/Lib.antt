@@ -1,4 +1,4 @@
--- Clearing, counting, saving and loading, to be read beside document 01, "When the book says no"; and what holds over any run of calls.
+-- Clearing, counting, saving and loading, to be read beside section 7 of RULES.md; and what holds over any run of calls.
 pub mod Calls
 pub mod CallLaws
 pub mod Run

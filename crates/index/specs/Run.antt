@@ -20,7 +20,7 @@ use Rattle.rules.specs.Recording.{leafEntry}
 use Rattle.split.specs.SplitLaws.{Each}
 use Rattle.index.specs.Calls.{CountSaid, Saved, cleared, countAnswer, saved, loaded, imageSmall}
 
--- A call with its arguments: any box, gust, image and buffer.
+-- Rules 1.1, 1.2, 1.3: a call with its arguments: any box, gust, image and buffer.
 pub data Call : Type 0 where
   Clear : Call
   Record : Box → ℕ → Call
@@ -29,7 +29,7 @@ pub data Call : Type 0 where
   Save : List ℕ → Call
   Load : List ℕ → Call
 
--- The book: its table and small record.
+-- Rule 2.1: the book: its table and small record.
 pub record Book : Type 0 where
   pub table : List ℕ
   pub small : Small
@@ -43,7 +43,7 @@ after Count b = b
 after (Save out) b = b
 after (Load image) b = let r = loaded image (b .table) (b .small) in record { table = r .table; small = r .small }
 
--- What each call replies, in document 01's numbers and values. Clearing and loading tell the refusal's number, 0 for none.
+-- What each call replies, in the rules' numbers and values. Clearing and loading tell the refusal's number, 0 for none.
 pub data Told : Type 0 where
   ToClear : ℕ → Told
   ToRecord : Reply → Told
@@ -64,7 +64,7 @@ replyTo (Load image) b = ToLoad (loaded image (b .table) (b .small) .refusal)
 abbrev pub held : Book → List Entry
 held b = heldRecords (pagesOf (b .table)) (b .small)
 
--- The full list beside it: a record that is accepted is added, its box as handed in; clearing, unless refused, and a load refused with 4 empty it; a load that succeeds replaces it by the records of its pages.
+-- Rule 11.2: the full list beside it: a record that is accepted is added, its box as handed in; clearing, unless refused, and a load refused with 4 empty it; a load that succeeds replaces it by the records of its pages.
 abbrev pub listAfter : Call → Book → List Entry → List Entry
 listAfter Clear b l = cond (tableFits (b .table)) [] l
 listAfter (Record x v) b l = cond (eqb (refusal (b .table) (b .small) x v) 0) (leafEntry x v ∷ l) l
@@ -97,14 +97,14 @@ unfoldable pub made : List Call → Moment → List Made
 made [] m = []
 made (c ∷ cs) m = record { call = c; found = m; reply = replyTo c (m .book) } ∷ made cs (turn c m)
 
--- What the answer to a legal question has to say: what a plain pass over the full list gives, Nothing exactly if no record touches. It is never refused, and opens at most the root and the other pages whose boxes touch.
+-- Rule 11.3: what the answer to a legal question has to say: what a plain pass over the full list gives, Nothing exactly if no record touches. It is never refused, and opens at most the root and the other pages whose boxes touch.
 pub record Answers (b : Book) (l : List Entry) (q : Box) (said : Said) : Type 0 where
   pub never-refused : said .refusal ≡ 0
   pub best : said .best ≡ boxMax q l
   pub nothing : (said .best ≡ 0) ↔ All (λ e. touches q (e .place) ≡ false) l
   pub pages : said .pages ≤ 1 + touchingPages (pagesOf (b .table)) q (otherPages (pagesOf (b .table)) (b .small))
 
--- What holds at every moment of a run: the book is well-formed, and any legal question would be answered so.
+-- Rule 11.3: what holds at every moment of a run: the book is well-formed, and any legal question would be answered so.
 pub record Good (m : Moment) : Type 0 where
   pub well-formed : wellFormed (m .book .table) (m .book .small) ≡ true
   pub answers : (q : Box) → legal q ≡ true → Answers (m .book) (m .list) q (says (asked (m .book .table) (m .book .small) q))

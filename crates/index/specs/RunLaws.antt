@@ -143,7 +143,7 @@ run-same (c ∷ cs) t s l h =
     let rest = run-same cs (m .book .table) (m .book .small) (m .list) (turn-same t s l h c) in
     record { calls = (call-good t s l h c, rest .calls); last = rest .last }
 
--- From any well-formed book, an empty or a loaded one among them, on a table of any legal size: at each call of any run the book is well-formed, each legal question is replied to with what the full list gives at that moment, and after the run each still would be.
+-- Rule 11.3: from any well-formed book, an empty or a loaded one among them, on a table of any legal size: at each call of any run the book is well-formed, each legal question is replied to with what the full list gives at that moment, and after the run each still would be.
 pub any-run : (cs : List Call) (b : Book) → wellFormed (b .table) (b .small) ≡ true → GoodRun cs (record { book = b; list = held b })
 any-run cs b w = run-same cs (b .table) (b .small) (held b) (record { well-formed = w; best = λ q lawful. refl })
 

@@ -29,19 +29,23 @@ same-left u w a b x e f =
     let s = ap (λ (y : Left). y .small) g in
     (ap (λ (y : Left). y .table) g, λ i. record { refusal = n i; small = s i })
 
+-- Rule 11.1.
 pub clear-settled : (t u w : List ℕ) (s : Small) (a b : Ended) → leftOf u a ≡ cleared t s → leftOf w b ≡ cleared t s → (u ≡ w) × (a ≡ b)
 clear-settled t u w s a b = same-left u w a b (cleared t s)
 
+-- Rule 11.1.
 pub load-settled : (image t u w : List ℕ) (s : Small) (a b : Ended) → leftOf u a ≡ loaded image t s → leftOf w b ≡ loaded image t s → (u ≡ w) × (a ≡ b)
 load-settled image t u w s a b = same-left u w a b (loaded image t s)
 
--- the answer and the buffer
+-- Rule 11.1: the answer and the buffer
 pub save-settled : (t out u w : List ℕ) (s : Small) (a b : ℕ) → record { refusal = a; buffer = u } ≡ saved t s out → record { refusal = b; buffer = w } ≡ saved t s out → (a ≡ b) × (u ≡ w)
 save-settled t out u w s a b e f = let g = e ∙ sym f in (ap (λ (y : Saved). y .refusal) g, ap (λ (y : Saved). y .buffer) g)
 
+-- Rule 11.1.
 pub count-settled : (t : List ℕ) (s : Small) (a b : Counted) → countSays a ≡ countAnswer t s → countSays b ≡ countAnswer t s → a ≡ b
 count-settled t s a b e f = count-is t s a e ∙ sym (count-is t s b f)
 
+-- Rule 11.1.
 pub ask-settled : (t : List ℕ) (s : Small) (q : Box) (a b : Asked) → a ≡ asked t s q → b ≡ asked t s q → a ≡ b
 ask-settled t s q a b e f = e ∙ sym f
 
@@ -72,6 +76,7 @@ same-reply (say.Says o j) (say.Says p k) e =
 same-reply (say.Refused m) (say.Says p k) e = let z : _≡_ {A = ℕ} 0 1 = cc in absurd (omega arith)
 same-reply (say.Says o j) (say.Refused n) e = let z : _≡_ {A = ℕ} 0 1 = cc in absurd (omega arith)
 
+-- Rule 11.1.
 pub record-settled : (t u w : List ℕ) (s : Small) (b : Box) (v : ℕ) (x y : code-called.Called) → calledOf u x ≡ recordInto t s b v → calledOf w y ≡ recordInto t s b v → (u ≡ w) × (x ≡ y)
 record-settled t u w s b v x y e f =
     let g = e ∙ sym f in

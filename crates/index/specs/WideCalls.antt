@@ -1,4 +1,4 @@
--- The book's calls take numbers of 16 bits. Handed the numbers narrowed, they answer and leave what document 01 says of the numbers given.
+-- The book's calls take numbers of 16 bits. Handed the numbers narrowed, they answer and leave what the rules say of the numbers given.
 use Prim.Native.Nat.{ℕ}
 use mathlib.Core.Bool.{Bool, true, false, cond}
 use mathlib.Core.List.{List}

@@ -16,7 +16,7 @@ pub struct Ended {
 }
 
 pub enum Counted {
-    // Document 01's number of the refusal.
+    // The refusal's number, by rule 7.23.
     Refused(u8),
     Counts {
         accepted: u32,

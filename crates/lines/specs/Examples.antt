@@ -1,4 +1,4 @@
--- Document 01's transcript, read and printed by computation, and lines that are refused by 9.
+-- The transcript of rule 9.1, read and printed by computation, and lines that are refused by 9.
 use mathlib.Core.List.{List, [], _∷_, map}
 use mathlib.Core.Path.{_≡_, refl}
 use Prim.Native.Nat.{ℕ}
@@ -60,7 +60,7 @@ pub transcript-printed :
 unfolding decimalOf printed
 transcript-printed = refl
 
--- leading zeros are read, and a number of five digits is a number: the book refuses it by 2 or 3
+-- Rules 8.5, 8.11: leading zeros are read, and a number of five digits is a number: the book refuses it by 2 or 3
 pub numbers-read :
     map lineTyped ("ask 00000 00007 0 4095 1880-01-01 2039-12-31" ∷ "add 0 65536 0 99999 1880-02-29 1880-03-01 99999" ∷ [])
     ≡ Ask (box 0 7 0 4_095 0 58_439) ∷ Add (box 0 65_536 0 99_999 59 60) 99_999 ∷ []

@@ -1,4 +1,4 @@
--- Document 01, "The counter program": what a line asks for. A line is its bytes, without the byte 10 that ends it.
+-- RULES.md, section 8: what a line asks for. A line is its bytes, without the byte 10 that ends it.
 use Prim.Native.Nat.{ℕ, _+_, _-_, _*_}
 use Prim.Native.Char.{code}
 use Prim.Native.String.{String, [] as no-text, _∷_ as _then_}
@@ -26,7 +26,7 @@ space = 32
 abbrev pub dash : ℕ
 dash = 45
 
--- Words are parted by one space. Before the words of what follows, a space puts an empty word; any other byte goes to the front of the first.
+-- Rule 8.4: words are parted by one space. Before the words of what follows, a space puts an empty word; any other byte goes to the front of the first.
 unfoldable pub withByte : Bool → ℕ → List Word → List Word
 withByte true b ws = [] ∷ ws
 withByte false b [] = (b ∷ []) ∷ []
@@ -36,7 +36,7 @@ unfoldable pub words : List ℕ → List Word
 words [] = [] ∷ []
 words (b ∷ bs) = withByte (eqb b space) b (words bs)
 
--- Numbers of 1 to 5 digits, the first digit the greatest. Leading zeros may stand.
+-- Rule 8.5: numbers of 1 to 5 digits, the first digit the greatest. Leading zeros may stand.
 abbrev pub isDigit : ℕ → Bool
 isDigit b = leb 48 b && leb b 57
 
@@ -54,7 +54,7 @@ numberFrom n (b ∷ bs) = numberFrom (10 * n + (b - 48)) bs
 abbrev pub number : Word → ℕ
 number w = numberFrom 0 w
 
--- Dates are YYYY-MM-DD, and the calendar has them.
+-- Rule 8.6: dates are YYYY-MM-DD, and the calendar has them.
 abbrev pub part : ℕ → ℕ → Word → Word
 part start count w = take count (drop start w)
 
@@ -93,19 +93,19 @@ values [] ws = []
 values (k ∷ ks) [] = []
 values (k ∷ ks) (w ∷ ws) = value k w ∷ values ks ws
 
--- `add` with seven arguments: east low, high, north low, high, first date, last date, gust;
+-- Rule 8.7: `add` with seven arguments, east low, high, north low, high, first date, last date, gust;
 abbrev pub addArguments : List Kind
 addArguments = aNumber ∷ aNumber ∷ aNumber ∷ aNumber ∷ aDate ∷ aDate ∷ aNumber ∷ []
 
--- `ask` with the first six;
+-- Rule 8.8: `ask` with the first six;
 abbrev pub askArguments : List Kind
 askArguments = take 6 addArguments
 
--- `count`.
+-- Rule 8.9: `count`.
 abbrev pub countArguments : List Kind
 countArguments = []
 
--- The box and the gust that the arguments' values are, in their order.
+-- Rules 8.7, 8.11: the box and the gust that the arguments' values are, in their order, however great.
 abbrev pub boxTyped : List ℕ → WideBox
 boxTyped vs =
     record {
@@ -124,7 +124,7 @@ same [] (b ∷ w) = false
 same (a ∷ v) [] = false
 same (a ∷ v) (b ∷ w) = eqb a b && same v w
 
--- A line of a command: its word, then its arguments. Any other line is refused.
+-- Rules 8.7, 8.8, 8.9, 8.10: a line of a command is its word, then its arguments. Any other line is refused.
 unfoldable pub command : Word → List Word → Line
 command w ws =
     cond (same w (text "add") && areA addArguments ws) (Add (boxTyped (values addArguments ws)) (gustTyped (values addArguments ws)))
@@ -135,11 +135,11 @@ unfoldable pub commandOf : List Word → Line
 commandOf [] = Refused
 commandOf (w ∷ ws) = command w ws
 
--- The number of the refusal that a line is refused by.
+-- Rule 7.9: the number of the refusal that a line is refused by.
 abbrev pub lineRefusal : ℕ
 lineRefusal = 9
 
--- Lines of at most 80 bytes; a longer one is refused.
+-- Rules 8.3, 8.10: lines of at most 80 bytes; a longer one is refused.
 abbrev pub longestLine : ℕ
 longestLine = 80
 

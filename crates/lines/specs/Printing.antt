@@ -1,4 +1,4 @@
--- Document 01, "The counter program": what is printed for an answer.
+-- RULES.md, section 8: what is printed for an answer.
 use Prim.Native.Nat.{ℕ, zero, suc, _+_, _/_, _%_}
 use mathlib.Core.Bool.{Bool, cond}
 use mathlib.Core.List.{List, [], _∷_, _++_}
@@ -10,7 +10,7 @@ use Rattle.lines.specs.Lines.{text}
 use Rattle.lines.specs.declared.printing.Answer.{Answer}
 use Rattle.lines.specs.declared.printing.Answer.the-variants.{Kept, Cut, Covered, Gust, Nothing, Counts, Refused}
 
--- A number in decimal digits, without leading zeros. Ten digits hold every number of 32 bits.
+-- Rule 8.25: a number in decimal digits, without leading zeros. Ten digits hold every number of 32 bits.
 unfoldable pub decimalOf : ℕ → ℕ → List ℕ
 decimalOf zero n = []
 decimalOf (suc most) n = cond (ltb n 10) ((48 + n) ∷ []) (decimalOf most (n / 10) ++ ((48 + n % 10) ∷ []))
@@ -22,10 +22,11 @@ decimal n = decimalOf 10 n
 abbrev pub labelled : String → ℕ → List ℕ
 labelled label n = text label ++ decimal n
 
--- A printed line ends with byte 10.
+-- Rule 8.25: a printed line ends with byte 10.
 abbrev pub lineEnd : List ℕ
 lineEnd = 10 ∷ []
 
+-- Rules 8.21, 8.22, 8.23, 8.24: a record's answer, a question's, a count's, and a refusal.
 unfoldable pub printed : Answer → List ℕ
 printed (Kept struck) = labelled "kept struck " struck ++ lineEnd
 printed (Cut struck) = labelled "cut struck " struck ++ lineEnd

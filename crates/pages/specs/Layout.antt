@@ -1,4 +1,4 @@
--- Document 01, "Pages": a book is a lent table of 16-bit words, 170 a page, 1 to 4,096 pages. Where each word lies.
+-- RULES.md, section 2: the table, and where each word lies.
 use Prim.Native.Nat.{ℕ, zero, suc, _+_, _*_, _/_}
 use mathlib.Core.Bool.{Bool, _&&_}
 use mathlib.Core.List.{List, [], _∷_, _++_}
@@ -10,15 +10,18 @@ use Rattle.pages.specs.declared.Small.{Small}
 use Rattle.pages.specs.declared.Entry.{Entry}
 use Rattle.pages.specs.declared.Page.{Page}
 
+-- Rule 2.2: the words of a page.
 abbrev pub pageWords : ℕ
 pageWords = 170
 
+-- Rule 2.13: the words of an entry, and the entries of a page.
 abbrev pub entryWords : ℕ
 entryWords = 21
 
 abbrev pub pageEntries : ℕ
 pageEntries = 8
 
+-- Rule 2.3: the most pages of a table.
 abbrev pub mostPages : ℕ
 mostPages = 4_096
 
@@ -26,18 +29,18 @@ mostPages = 4_096
 abbrev pub pagesIn : List ℕ → ℕ
 pagesIn t = length t / pageWords
 
--- Refusal 1 is given if the table is not 170 × P words, P 1 to 4,096. A table fits if it is not given.
+-- Rules 2.3, 3.1, 7.1: refusal 1 is given if the table is not 170 × P words, P 1 to 4,096. A table fits if it is not given.
 abbrev pub tableFits : List ℕ → Bool
 tableFits t = leb 1 (pagesIn t) && leb (pagesIn t) mostPages && eqb (pagesIn t * pageWords) (length t)
 
--- A box takes six words: east low, east high, north low, north high, day low, day high.
+-- Rule 2.15: a box takes six words, east low, east high, north low, north high, day low, day high.
 abbrev pub rangeAt : List ℕ → ℕ → Range
 rangeAt t k = record { low = getD t k 0; high = getD t (k + 1) 0 }
 
 unfoldable pub boxAt : List ℕ → ℕ → Box
 boxAt t k = record { east = rangeAt t k; north = rangeAt t (k + 2); day = rangeAt t (k + 4) }
 
--- An entry: its box; gust or strongest gust below; weakest gust below; child page; the strongest record's box; the union box.
+-- Rules 2.14, 2.16: an entry is its box; gust or strongest gust below; weakest gust below; child page; the strongest record's box; the union box.
 unfoldable pub entryAt : List ℕ → ℕ → Entry
 entryAt t k =
     record {
@@ -54,7 +57,7 @@ unfoldable pub entriesOf : ℕ → List ℕ → List Entry
 entriesOf zero w = []
 entriesOf (suc n) w = entryAt w 0 ∷ entriesOf n (drop entryWords w)
 
--- A page from its words: word 0 is its level, word 1 the count, then eight entries.
+-- Rules 2.11, 2.12, 2.13: a page from its words. Word 0 is its level, word 1 the count, then eight entries.
 unfoldable pub pageOf : List ℕ → Page
 pageOf w = record { level = getD w 0 0; count = getD w 1 0; entries = entriesOf pageEntries (drop 2 w) }
 
@@ -116,7 +119,7 @@ unfoldable pub tableOf : List Page → List ℕ
 tableOf [] = []
 tableOf (x ∷ xs) = wordsOfPage x ++ tableOf xs
 
--- Unused entries and free pages are all 0.
+-- Rule 2.18: unused entries and free pages are all 0.
 abbrev pub zeroRange : Range
 zeroRange = record { low = 0; high = 0 }
 

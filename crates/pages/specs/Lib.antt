@@ -1,4 +1,4 @@
--- The pages' definitions, to be read beside document 01, "Pages", and the laws that the storeys above cite.
+-- The pages' definitions, to be read beside section 2 of RULES.md, and the laws that the storeys above cite.
 pub mod Layout
 pub mod Summary
 pub mod Free

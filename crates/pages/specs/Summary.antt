@@ -1,4 +1,4 @@
--- Document 01, "Pages": of an index entry, what is always exact for its child page.
+-- RULES.md, section 2: what an index entry says of its child page, and is always exact.
 use Prim.Native.Nat.{ℕ, min}
 use mathlib.Core.Bool.{Bool, cond}
 use mathlib.Core.List.{List, [], _∷_}
@@ -10,23 +10,23 @@ use Rattle.pages.specs.Layout.{zeroBox, zeroEntry}
 use Rattle.pages.specs.declared.Entry.{Entry}
 use Rattle.pages.specs.declared.Page.{Page}
 
--- The entries in use: the first count of the eight.
+-- Rule 2.12: the entries in use, the first count of the eight.
 abbrev pub inUse : Page → List Entry
 inUse x = take (x .count) (x .entries)
 
--- Level 1 is a leaf; a page of any other level is read as an index page.
+-- Rule 2.11: level 1 is a leaf; a page of any other level is read as an index page.
 abbrev pub isLeaf : ℕ → Bool
 isLeaf level = eqb level 1
 
--- The strongest record's box: from a leaf entry its box, from an index entry its strongest box.
+-- Rule 2.23: the strongest record's box, from a leaf entry its box, from an index entry its strongest box.
 abbrev pub recordBox : ℕ → Entry → Box
 recordBox level e = cond (isLeaf level) (e .place) (e .strongest)
 
--- The weakest gust: from a leaf entry its gust, from an index entry its weakest gust.
+-- Rule 2.24: the weakest gust, from a leaf entry its gust, from an index entry its weakest gust.
 abbrev pub weakGust : ℕ → Entry → ℕ
 weakGust level e = cond (isLeaf level) (e .gust) (e .weakest)
 
--- The candidate for the union box: a leaf entry's box, an index entry's union box; and its size.
+-- Rule 2.25: the candidate for the union box, a leaf entry's box, an index entry's union box; and its size.
 abbrev pub unionBox : ℕ → Entry → Box
 unionBox level e = cond (isLeaf level) (e .place) (e .union)
 
@@ -36,13 +36,13 @@ unionSize level e = size (unionBox level e)
 abbrev pub gustOf : Entry → ℕ
 gustOf e = e .gust
 
--- The smallest box that covers every entry.
+-- Rule 2.21: the smallest box that covers every entry.
 unfoldable pub covering : List Entry → Box
 covering [] = zeroBox
 covering (e ∷ []) = e .place
 covering (e ∷ f ∷ es) = join (e .place) (covering (f ∷ es))
 
--- The entry that is greatest by a key. Ties go to the lower place: a later one only if its key is greater.
+-- Rule 2.26: the entry that is greatest by a key. Ties go to the lower place: a later one only if its key is greater.
 abbrev pub laterIfGreater : (Entry → ℕ) → Entry → Entry → Entry
 laterIfGreater key e later = cond (ltb (key e) (key later)) later e
 
@@ -57,7 +57,7 @@ leastOf key [] = 0
 leastOf key (e ∷ []) = key e
 leastOf key (e ∷ f ∷ es) = min (key e) (leastOf key (f ∷ es))
 
--- The index entry for child page p, from the child's level and its entries in use; where there are none all is 0 but the child page.
+-- Rules 2.21, 2.22, 2.23, 2.24, 2.25: the index entry for child page p, from the child's level and its entries in use; where there are none all is 0 but the child page.
 unfoldable pub summary : ℕ → ℕ → List Entry → Entry
 summary p level es =
     record {

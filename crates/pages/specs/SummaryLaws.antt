@@ -108,7 +108,7 @@ module _ (key : Entry → ℕ) where
       (λ w. (suc (h .0), omega (arith, h .1), omega (arith, h .2)))
       (below-or-not (key e) v)
 
--- "Of an index entry, always exact for its child page": what document 01 asks of the entry s for child page p, of that level and with those entries in use
+-- Rules 2.21, 2.22, 2.23, 2.24, 2.25, 2.26: what they ask of the entry s for child page p, of that level and with those entries in use
 pub record Exact (p level : ℕ) (es : List Entry) (s : Entry) : Type 0 where
   pub child : s .child ≡ p
   -- the smallest box that covers every entry of the child

@@ -28,7 +28,7 @@ use Rattle.rules.specs.Scan.{handedIn}
 use Rattle.recording.specs.TableSteps.{still-fits}
 use Rattle.recording.specs.Views.{mostStruck, soughtOf}
 
--- Document 01's numbers and answers, by the code's cases.
+-- Rules 7.31, 4.82: a refusal's number or the answer, by the code's cases.
 abbrev pub replyOf : code-reply.Reply → Reply
 replyOf (say.Refused n) = Refused n
 replyOf (say.Says o k) = Answered (record { outcome = outcomeIs o; struck = k })

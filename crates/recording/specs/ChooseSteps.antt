@@ -1,4 +1,4 @@
--- Rule 4 in the code's order: the best of the places passed.
+-- Step 4 in the code's order: the best of the places passed.
 use Prim.Native.Nat.{ℕ, zero, suc, _+_, _-_, _≤_, _<_}
 use mathlib.Core.Bool.{Bool, true, false, cond}
 use mathlib.Core.List.{List}

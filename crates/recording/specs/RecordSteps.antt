@@ -18,7 +18,7 @@ use Rattle.rules.specs.Recording.{Walked, fromRoot, putRootRight, collapse, Out
 use Rattle.recording.specs.RootSteps.{Roots, RootsIf, LevelFits}
 use Rattle.recording.specs.Views.{mostStruck, soughtOf, becameOf, Walks}
 
--- Document 01's answers, by the code's cases.
+-- Rule 4.81: the answers, by the code's cases.
 abbrev pub outcomeIs : code-outcome.Outcome → Outcome
 outcomeIs case.Kept = Kept
 outcomeIs case.Cut = Cut

@@ -35,7 +35,7 @@ use Rattle.recording.specs.Views.{Leaves, Frees, mostStruck, soughtOf, b
 use Rattle.sieve.specs.Sieve.{IsSieve, sieveOf, questionOf}
 use Rattle.sieve.specs.SieveLaws.{sieve-is, question-of}
 
--- from the root: the strike, and rule 2
+-- from the root: the strike, and step 2
 pub may-begin : (n v : ℕ) (t q : List ℕ) (r : ℕ) (s : code-sought.Sought) → tableFits t ≡ true → Before n v (pagesOf t) r (soughtOf s) → q ≡ sieveOf (s .place) → MayStrike t q r (s .place)
 may-begin n v t q r s f h e =
     may-strike n v t q r (soughtOf s) f h (subst IsSieve (sym e) (sieve-is (s .place)))

@@ -1,4 +1,4 @@
--- Rule 3 in the code's order.
+-- Step 3 in the code's order.
 use Prim.Native.Nat.{ℕ, zero, suc, _+_, _≤_, _<_}
 use mathlib.Core.Bool.{Bool, true, false, not}
 use mathlib.Core.List.{List}

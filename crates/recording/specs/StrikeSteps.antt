@@ -1,4 +1,4 @@
--- Rule 1 in the code's order: a page freed with all under it, its children one after another, and the struck entries of a page.
+-- Step 1 in the code's order: a page freed with all under it, its children one after another, and the struck entries of a page.
 use Prim.Native.Nat.{ℕ, zero, suc, _+_, _-_, _≤_, _<_, min}
 use mathlib.Core.Bool.{Bool, true, false, not}
 use mathlib.Core.List.{List, [], _∷_, _++_, map, append-assoc, append-nil}

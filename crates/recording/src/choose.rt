@@ -1,4 +1,4 @@
-// Rule 4: the entry whose box grows least in size to cover the box; ties: smaller size, then lower place.
+// Step 4: the entry whose box grows least in size to cover the box; ties: smaller size, then lower place.
 use ground::Box;
 use pages::Entry;
 ghost use mathlib.Core.Bool.{cond};

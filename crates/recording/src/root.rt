@@ -37,7 +37,7 @@ fn empty_leaf() -> Page
     x
 }
 
-// Rule 1 at the root, with n levels under it; rule 2: left with no entry, it becomes an empty leaf; and on.
+// Step 1 at the root, with n levels under it; step 2: left with no entry, it becomes an empty leaf; and on.
 pub fn from_root(t: &mut [u16], n: usize, v: u16, root: usize, s: Sought) -> Walked
     requires { ⌜ (tableFits (now t) ≡ true) × Before n v (pagesOf (now t)) root (soughtOf s) ⌝ }
     ensures { λ r. ⌜ Walks (now (t .entry)) (now (t .exit)) r (fromRoot n v (pagesOf (now (t .entry))) root (soughtOf s)) ⌝ }

@@ -1,4 +1,4 @@
-// Rule 3: each candidate, in order and once, meets the box as already cut.
+// Step 3: each candidate, in order and once, meets the box as already cut.
 use ground::Box;
 use ground::Cut;
 ghost use mathlib.Core.Path.{_≡_};

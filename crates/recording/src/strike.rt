@@ -1,4 +1,4 @@
-// Rule 1: striking. A struck entry frees every page under it, and the rest of its page closes up.
+// Step 1: striking. A struck entry frees every page under it, and the rest of its page closes up.
 use crate::look::some_struck;
 use crate::table::blank_page;
 use crate::table::load;
@@ -150,7 +150,7 @@ fn close_up(b: Box, v: u16, x: Page) -> Page
     kept
 }
 
-// Rule 1 at page p, which has n levels under it. It is held by value, since a spoilt table may name the page itself.
+// Step 1 at page p, which has n levels under it. It is held by value, since a spoilt table may name the page itself.
 fn strike_page(t: &mut [u16], n: usize, b: Box, v: u16, p: usize) -> u32
     requires { ⌜ tableFits (now t) ≡ true ⌝ }
     ensures { λ r. ⌜ Frees (now (t .entry)) (now (t .exit)) 0 r (strikePage n b v (pagesOf (now (t .entry))) p) ⌝ }

@@ -122,7 +122,7 @@ module _ (n v : ℕ) (ps qs : List Page) (p : ℕ) (own after : Pages) (held lef
         answers = λ q l. let a = c .answers q l in let b = bests q in omega arith;
       }
 
--- Rule 1 at a page, and what stands after it.
+-- Step 1 at a page, and what stands after it.
 module _ (n v : ℕ) (ps : List Page) (p : ℕ) (s : Sought) (h : Before n v ps p s) where
   es : List Entry
   es = inUse (page ps p)

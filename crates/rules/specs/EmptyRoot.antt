@@ -1,4 +1,4 @@
--- Rule 2: a root all of whose entries are struck becomes, in its place, an empty leaf root.
+-- Step 2: a root all of whose entries are struck becomes, in its place, an empty leaf root.
 use mathlib.Core.Bool.{false}
 use mathlib.Core.List.{List, [], flatMap}
 use mathlib.Core.Path.{_≡_, sym, ap, _∙_, subst}

@@ -1,4 +1,4 @@
--- Document 01's examples of recording, by computation on the program's 180 pages.
+-- The examples of RULES.md that record, by computation on the program's 180 pages.
 use mathlib.Core.List.{List, [], _∷_, map}
 use mathlib.Core.Path.{_≡_, refl}
 use Prim.Native.Nat.{ℕ}
@@ -64,6 +64,7 @@ ninePages =
 abbrev nineSmall : Small
 nineSmall = record { root = 2; height = 2; accepted = 9; struck = 0; covered = 0 }
 
+-- Rule 9.6.
 pub nine-in-a-row :
     run emptyPages emptySmall (cells (0 ∷ 10 ∷ 20 ∷ 30 ∷ 40 ∷ 50 ∷ 60 ∷ 70 ∷ 80 ∷ []))
     ≡ record { answers = replicate 9 kept; pages = ninePages; small = nineSmall }

@@ -82,7 +82,7 @@ module _ (n v : ℕ) (ps : List Page) (r : ℕ) (s : Sought) (h : Before n v ps 
   level-by w m few c stands e = let l = first-level (w .pages) m r (c .handles) [] (c .sound) e in omega arith
   level-by w m few c (split q) e = let l = first-level (w .pages) m r (c .handles) (handle (w .pages) q ∷ []) (c .sound) e in omega arith
 
-  -- rule 2: either root that goes on
+  -- step 2: either root that goes on
   by-left : (es : List Entry) → inUse (page (strikePage n (s .box) v ps r .pages) r) ≡ es
       → RootCame n v ps r s (leafIfEmpty es n v (strikePage n (s .box) v ps r .pages) r s (strikePage n (s .box) v ps r .records))
   by-left [] e =

@@ -35,11 +35,11 @@ use Rattle.rules.specs.Tree.{load, records, hit, best, Sound, level-of}
 abbrev pub LowerLaw : ℕ → ℕ → Walk → Type 0
 LowerLaw n v lower = (ps : List Page) (p : ℕ) (s : Sought) (k : ℕ) → Begun n v ps p s → (1 ≤ n → 1 ≤ length (inUse (page ps p))) → CameFrom n v ps p s k (lower ps p s k)
 
--- the child that rule 4 chooses
+-- the child that step 4 chooses
 abbrev pub chosen : List Page → ℕ → Sought → ℕ
 chosen ps p s = getD (inUse (page ps p)) (choose (s .box) (inUse (page ps p))) zeroEntry .child
 
--- rule 1 at the chosen child
+-- step 1 at the chosen child
 module _ (n v : ℕ) (ps : List Page) (p : ℕ) (s : Sought) (begun : Begun (suc n) v ps p s) (some : 1 ≤ length (inUse (page ps p)))
     (uncovered : scan (suc n) v (inUse (page ps p)) s .isCovered ≡ false) where
   h : Before (suc n) v ps p s

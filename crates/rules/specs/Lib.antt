@@ -1,4 +1,4 @@
--- Document 01, "Recording" and "When the book says no": the definitions, to be read beside the document in this order, and what they keep.
+-- Recording, to be read beside sections 4 and 7 of RULES.md: the definitions in their order, and what they keep.
 pub mod Strike
 pub mod Scan
 pub mod Recording

@@ -22,7 +22,7 @@ use Rattle.rules.specs.Scan.{Sought, handedIn, scan}
 use Rattle.rules.specs.Strike.{strikePage}
 use Rattle.rules.specs.WalkLaws.{step-down}
 
--- The entries that rule 1 leaves at each page of the walk below page p, from the top down.
+-- The entries that step 1 leaves at each page of the walk below page p, from the top down.
 unfoldable pub leftBelow : ℕ → ℕ → List Page → ℕ → Sought → List (List Entry)
 leftBelow zero v ps p s = []
 leftBelow (suc n) v ps p s =

@@ -1,4 +1,4 @@
--- Document 01 once had a second half of rule 2: "A page below the root left with no entry is freed and its entry taken from its parent, and the record starts again at the root."
+-- The rules once had a second half of step 2: a page below the root left with no entry was freed and its entry taken from its parent, and the record started again at the root.
 -- Here it stands for the last time, with the theorem that every page, the small record and the answer are the same without it.
 use mathlib.Core.Bool.{Bool, true, false}
 use mathlib.Core.List.{List, [], _∷_}
@@ -36,7 +36,7 @@ abbrev oldBack : ℕ → ℕ → OldWalked → OldWalked
 oldBack p i (done w) = done (comeBack p i w)
 oldBack p i (again ps s k) = let x = page ps p in again (set ps p (pageFrom (x .level) (exactAt ps (inUse x) i))) s k
 
--- The second half of rule 2, of the entries left at the child c at place i of page p: with none, c is freed, its entry taken from p, and the record starts again.
+-- The second half of step 2, of the entries left at the child c at place i of page p: with none, c is freed, its entry taken from p, and the record starts again.
 abbrev oldRuleTwo : List Entry → OldWalk → ℕ → ℕ → ℕ → List Page → Sought → ℕ → OldWalked
 oldRuleTwo [] lower p i c ps s k = let x = page ps p in again (set (set ps c freePage) p (pageFrom (x .level) (without i (inUse x)))) s k
 oldRuleTwo (e ∷ es) lower p i c ps s k = oldBack p i (lower ps c s k)

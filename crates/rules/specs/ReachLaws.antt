@@ -1,4 +1,4 @@
--- The walk of document 01 and the tree in the store: the pages reached and the records held are the tree's.
+-- The walk of section 3 and the tree in the store: the pages reached and the records held are the tree's.
 use Rattle.ground.specs.Tests.{below-or-not}
 use mathlib.Core.Logic.{⊎-elim}
 use mathlib.Core.Bool.{Bool, true, false}

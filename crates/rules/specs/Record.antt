@@ -1,4 +1,4 @@
--- Document 01, "When the book says no", recording: 1, 2, 3, 4, 5, 6, in that order; a refusal leaves table and small record unchanged.
+-- RULES.md, section 7: the call that records, and its refusals.
 use Prim.Native.Nat.{ℕ, _+_}
 use mathlib.Core.Bool.{Bool, true, false, not}
 use mathlib.Core.List.{List}
@@ -21,11 +21,12 @@ pub record Called : Type 0 where
   pub table : List ℕ
   pub small : Small
 
--- The number of the refusal of a record, 0 for none: TABLE, BOX, GUST, DAMAGED, SPENT, FULL.
+-- Rule 7.31: the first refusal that applies is given.
 abbrev pub firstOf : Bool → ℕ → ℕ → ℕ
 firstOf true n later = n
 firstOf false n later = later
 
+-- Rules 7.21, 7.4, 7.5, 7.6: the number of the refusal of a record, 0 for none: TABLE, BOX, GUST, DAMAGED, SPENT, FULL.
 unfoldable pub refusal : List ℕ → Small → Box → ℕ → ℕ
 refusal t s b v =
     firstOf (not (tableFits t)) 1
@@ -39,6 +40,7 @@ refusal t s b v =
 abbrev pub answered : Recorded → Called
 answered r = record { reply = Answered (r .answer); table = tableOf (r .pages); small = r .small }
 
+-- Rule 7.32: a refusal leaves table and small record unchanged.
 abbrev pub refused : ℕ → List ℕ → Small → Called
 refused n t s = record { reply = Refused n; table = t; small = s }
 

@@ -172,7 +172,7 @@ few t s b v a =
     struck-adds : (ps : List Page) (s : Small) (b : Box) (v : ℕ) → recorded ps s b v .small .struck ≡ s .struck + recorded ps s b v .answer .struck
     struck-adds ps s b v = refl
 
--- A table of one or two pages takes no record.
+-- Rule 7.34: a table of one or two pages takes no record.
 pub small-table-refuses : (t : List ℕ) (s : Small) (b : Box) (v : ℕ) → pagesIn t ≤ 2 → refusal t s b v ≡ 0 → ⊥
 small-table-refuses t s b v h e =
     let a = not-refused t s b v e in

@@ -1,4 +1,4 @@
--- Document 01, "Recording", rule 1: strike every entry whose box b covers and whose gust (index: strongest gust) is at most v.
+-- RULES.md, section 4, step 1: the strike.
 use Prim.Native.Nat.{ℕ, zero, suc, _+_}
 use mathlib.Core.Bool.{Bool, true, false, _&&_, not}
 use mathlib.Core.List.{List, [], _∷_}
@@ -13,6 +13,7 @@ use Rattle.pages.specs.declared.Page.{Page}
 use Rattle.split.specs.Split.{pageFrom}
 use Rattle.wellformed.specs.WellFormed.{page}
 
+-- Rule 4.11: an entry is struck if b covers its box and its gust (index: strongest gust) is at most v.
 abbrev pub isStruck : Box → ℕ → Entry → Bool
 isStruck b v e = covers b (e .place) && leb (e .gust) v
 
@@ -28,11 +29,11 @@ select f (e ∷ es) = consIf (f e) e (select f es)
 abbrev pub struckOf : Box → ℕ → List Entry → List Entry
 struckOf b v es = select (isStruck b v) es
 
--- The rest close up in order.
+-- Rule 4.12: the rest close up in order.
 abbrev pub rest : Box → ℕ → List Entry → List Entry
 rest b v es = select (λ e. not (isStruck b v e)) es
 
--- The pages after a strike, and how many leaf records it struck.
+-- Rule 4.14: the pages after a strike, and how many leaf records it struck.
 pub record Struck : Type 0 where
   pub pages : List Page
   pub records : ℕ
@@ -44,7 +45,7 @@ strikeAll one ps (e ∷ es) =
     let t = strikeAll one (s .pages) es in
     record { pages = t .pages; records = s .records + t .records }
 
--- An entry of a leaf, with no levels under it, is one record. A struck index entry frees all pages under it, n levels of them: those under its child's entries, then the child.
+-- Rules 4.13, 4.14: an entry of a leaf, with no levels under it, is one record. A struck index entry frees all pages under it, n levels of them: those under its child's entries, then the child.
 unfoldable pub strikeOne : ℕ → List Page → Entry → Struck
 strikeOne zero ps e = record { pages = ps; records = 1 }
 strikeOne (suc n) ps e =
@@ -55,7 +56,7 @@ strikeOne (suc n) ps e =
 unfoldable pub strike : ℕ → Box → ℕ → List Page → List Entry → Struck
 strike n b v ps es = strikeAll (strikeOne n) ps (struckOf b v es)
 
--- Rule 1 at page p, with n levels under it: its struck entries one after another, and the rest of it closes up.
+-- Step 1 at page p, with n levels under it: its struck entries one after another, and the rest of it closes up.
 abbrev pub strikePage : ℕ → Box → ℕ → List Page → ℕ → Struck
 strikePage n b v ps p =
     let x = page ps p in

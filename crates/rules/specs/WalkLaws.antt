@@ -15,7 +15,7 @@ use Rattle.rules.specs.Recording.{Walk, append, goDown, unlessCovered, g
 use Rattle.rules.specs.Scan.{Sought, scan}
 use Rattle.rules.specs.Strike.{strikePage}
 
--- covered, or rule 4
+-- covered, or step 4
 on-law : (n v : ℕ) (next : Walk) (ps : List Page) (p : ℕ) (s : Sought) (k : ℕ) → Before n v ps p s
     → (scan n v (inUse (page ps p)) s .isCovered ≡ false → CameFrom n v ps p s k (next ps p (scan n v (inUse (page ps p)) s) k)) → CameFrom n v ps p s k (goOn n v next ps p s k)
 unfolding goOn
@@ -31,7 +31,7 @@ walk-law zero v ps p s k b some = on-law zero v (append v) ps p s k (b .before) 
 walk-law (suc n) v ps p s k b some =
     on-law (suc n) v (goDown n v (walkDown n v)) ps p s k (b .before) (λ o. go-down-law n v ps p s b (some (omega arith)) o (walkDown n v) (walk-law n v) k)
 
--- A step down of the walk, as code takes it: the child c stands, rule 1 leaves it an entry, and the page is found again as it was.
+-- A step down of the walk, as code takes it: the child c stands, step 1 leaves it an entry, and the page is found again as it was.
 pub record StepDown (n v : ℕ) (ps : List Page) (p : ℕ) (s : Sought) (k c : ℕ) : Type 0 where
   pub before : Before n v ps c s
   pub begun : Begun n v (strikePage n (s .box) v ps c .pages) c s

@@ -1,4 +1,4 @@
--- The example of document 01 that belongs to the split, by computation.
+-- The split of rule 9.6, by computation.
 use mathlib.Core.List.{List, [], _∷_, map}
 use mathlib.Core.Path.{_≡_, refl}
 use Prim.Native.Nat.{ℕ}
@@ -23,7 +23,7 @@ oneCell x =
 abbrev cells : List ℕ → List Entry
 cells xs = map oneCell xs
 
--- P: nine such records, east 0, 10 .. 80 in order: the first group holds 0 to 50, the second 80, 60, 70
+-- Rule 9.6, P: nine such records, east 0, 10 .. 80 in order: the first group holds 0 to 50, the second 80, 60, 70
 pub nine-in-a-row : halves (cells (0 ∷ 10 ∷ 20 ∷ 30 ∷ 40 ∷ 50 ∷ 60 ∷ 70 ∷ 80 ∷ [])) ≡ record { first = cells (0 ∷ 10 ∷ 20 ∷ 30 ∷ 40 ∷ 50 ∷ []); second = cells (80 ∷ 60 ∷ 70 ∷ []) }
 unfolding halves begin seeds places pairs pairsWith mostWasteful wastesMore placeAll place takes next firstMost growthsDiffer growth secondTakes join size
 nine-in-a-row = refl

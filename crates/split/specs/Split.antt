@@ -1,4 +1,4 @@
--- Document 01, "Recording": nine entries make a split. Only the entries' boxes choose, so the rules speak of a list of boxes and of places in it.
+-- RULES.md, section 4: a page with nine entries is split. Only the entries' boxes choose, so the definitions speak of a list of boxes and of places in it.
 use Prim.Native.Nat.{ℕ, zero, suc, _+_, _-_}
 use mathlib.Core.Bool.{Bool, true, false, cond, _&&_, _||_}
 use mathlib.Core.List.{List, [], _∷_, _++_, map}
@@ -19,7 +19,7 @@ unfoldable pub places : ℕ → ℕ → List ℕ
 places i zero = []
 places i (suc n) = i ∷ places (suc i) n
 
--- The pairs of places, by first place, then second.
+-- Rule 4.53: the pairs of places, by first place, then second.
 pub record Pair : Type 0 where
   pub first : ℕ
   pub second : ℕ
@@ -32,7 +32,7 @@ unfoldable pub pairs : List ℕ → List Pair
 pairs [] = []
 pairs (i ∷ is) = pairsWith i is ++ pairs is
 
--- A pair wastes the size of its covering box minus both sizes. This may be negative, so two pairs are compared crosswise.
+-- Rule 4.52: a pair wastes the size of its covering box minus both sizes. This may be negative, so two pairs are compared crosswise.
 abbrev pub coverSize : List Box → Pair → ℕ
 coverSize bs p = size (join (boxAt bs (p .first)) (boxAt bs (p .second)))
 
@@ -42,7 +42,7 @@ bothSizes bs p = size (boxAt bs (p .first)) + size (boxAt bs (p .second))
 unfoldable pub wastesMore : List Box → Pair → Pair → Bool
 wastesMore bs q p = ltb (coverSize bs p + bothSizes bs q) (coverSize bs q + bothSizes bs p)
 
--- Seeds: the pair that wastes most; ties: the first pair.
+-- Rules 4.52, 4.53: the seeds are the pair that wastes most; ties: the first pair.
 unfoldable pub mostWasteful : List Box → Pair → List Pair → Pair
 mostWasteful bs p [] = p
 mostWasteful bs p (q ∷ qs) = mostWasteful bs (cond (wastesMore bs q p) q p) qs
@@ -50,7 +50,7 @@ mostWasteful bs p (q ∷ qs) = mostWasteful bs (cond (wastesMore bs q p) q p) qs
 unfoldable pub seeds : List Box → Pair
 seeds bs = mostWasteful bs (record { first = 0; second = 1 }) (pairs (places 0 (length bs)))
 
--- A group: the places of its entries in order of placing, and its covering box. It begins with one and takes others.
+-- Rules 4.51, 4.60: a group is the places of its entries in order of placing, and its covering box. It begins with one and takes others.
 pub record Group : Type 0 where
   pub members : List ℕ
   pub cover : Box
@@ -61,11 +61,11 @@ begun bs i = record { members = i ∷ []; cover = boxAt bs i }
 unfoldable pub takes : List Box → Group → ℕ → Group
 takes bs g i = record { members = g .members ++ (i ∷ []); cover = join (g .cover) (boxAt bs i) }
 
--- A group that gets all that are left: nothing is compared with its covering box any more.
+-- Rule 4.56: a group that gets all that are left. Nothing is compared with its covering box any more.
 abbrev pub takesAll : Group → List ℕ → Group
 takesAll g is = record { members = g .members ++ is; cover = g .cover }
 
--- The two groups and the unplaced in their old order.
+-- Rules 4.51, 4.55: the two groups and the unplaced in their old order.
 pub record Groups : Type 0 where
   pub first : Group
   pub second : Group
@@ -74,6 +74,7 @@ pub record Groups : Type 0 where
 abbrev pub without : {A : Type 0} → ℕ → List A → List A
 without k is = take k is ++ drop (suc k) is
 
+-- Rule 4.54: each seed begins a group, that of the lower place the first.
 unfoldable pub begin : List Box → Groups
 begin bs =
     let p = seeds bs in
@@ -83,11 +84,11 @@ begin bs =
       unplaced = without (p .first) (without (p .second) (places 0 (length bs)));
     }
 
--- Whether a group needs all of the unplaced to reach 3.
+-- Rule 4.56: whether a group needs all of the unplaced to reach 3.
 abbrev pub needsAll : Group → List ℕ → Bool
 needsAll g is = leb (length (g .members) + length is) 3
 
--- By how much a group's covering box grows in size to cover a box, and how much two growths differ.
+-- Rules 4.58, 4.57: by how much a group's covering box grows in size to cover a box, and how much two growths differ.
 unfoldable pub growth : Group → Box → ℕ
 growth g b = size (join (g .cover) b) - size (g .cover)
 
@@ -97,7 +98,7 @@ difference a b = (a - b) + (b - a)
 unfoldable pub growthsDiffer : Groups → Box → ℕ
 growthsDiffer s b = difference (growth (s .first) b) (growth (s .second) b)
 
--- The entry whose two growths differ most, first on a tie: which of the unplaced, of 0 to n.
+-- Rule 4.57: the entry whose two growths differ most, first on a tie: which of the unplaced, of 0 to n.
 unfoldable pub firstMost : (ℕ → ℕ) → ℕ → ℕ
 firstMost key zero = 0
 firstMost key (suc n) = let m = firstMost key n in cond (ltb (key m) (key (suc n))) (suc n) m
@@ -105,7 +106,7 @@ firstMost key (suc n) = let m = firstMost key n in cond (ltb (key m) (key (suc n
 unfoldable pub next : List Box → Groups → ℕ
 next bs s = firstMost (λ k. growthsDiffer s (boxAt bs (getD (s .unplaced) k 0))) (length (s .unplaced) - 1)
 
--- It goes to the group that grows less; ties: smaller covering size, fewer entries, first group. Whether that is the second:
+-- Rule 4.59: it goes to the group that grows less; ties: smaller covering size, fewer entries, first group. Whether that is the second:
 abbrev pub lessOrTie : ℕ → ℕ → Bool → Bool
 lessOrTie a b tie = ltb a b || (eqb a b && tie)
 
@@ -125,7 +126,7 @@ place bs s =
     let i = getD (s .unplaced) k 0 in
     given (secondTakes s (boxAt bs i)) bs s i (without k (s .unplaced))
 
--- Repeatedly, while there are unplaced, n of them: if a group needs all of them to reach 3, it gets all; otherwise one is placed.
+-- Rules 4.55, 4.56, 4.57: repeatedly, while there are unplaced, n of them: if a group needs all of them to reach 3, it gets all; otherwise one is placed.
 abbrev pub allToFirst : Groups → Groups
 allToFirst s = record { first = takesAll (s .first) (s .unplaced); second = s .second; unplaced = [] }
 
@@ -138,7 +139,7 @@ placeAll bs (suc n) s =
     let onward = placeAll bs n (place bs s) in
     cond (needsAll (s .first) (s .unplaced)) (allToFirst s) (cond (needsAll (s .second) (s .unplaced)) (allToSecond s) onward)
 
--- The entries of both groups. The first was begun by the seed of lower place.
+-- Rules 4.51, 4.54: the entries of both groups. The first was begun by the seed of lower place.
 pub record TwoLists : Type 0 where
   pub first : List Entry
   pub second : List Entry
@@ -156,7 +157,7 @@ halves es =
     let t = placeAll bs (length (s .unplaced)) s in
     record { first = entriesAt es (t .first .members); second = entriesAt es (t .second .members) }
 
--- A page from its level and at most eight entries: unused entries are all 0.
+-- Rules 2.12, 2.18: a page from its level and at most eight entries. Unused entries are all 0.
 unfoldable pub pageFrom : ℕ → List Entry → Page
 pageFrom level es = record { level = level; count = length es; entries = es ++ replicate (pageEntries - length es) zeroEntry }
 

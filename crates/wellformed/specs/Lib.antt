@@ -1,4 +1,4 @@
--- Document 01, "Pages": well-formed. The definition, and why a flat pass decides it.
+-- Well-formed, to be read beside section 3 of RULES.md: the definition, and why a flat pass decides it.
 pub mod WellFormed
 pub mod Parts
 pub mod Counting

@@ -39,7 +39,7 @@ legal-on limit s h =
     (λ e. let g = orders (narrow (s .low)) (narrow (s .high)) (narrow (s .high)) limit e in ordered (s .low) (s .high) (s .high) limit (omega arith) (omega arith))
     (λ e. let g = orders (s .low) (s .high) (s .high) limit e in ordered (narrow (s .low)) (narrow (s .high)) (narrow (s .high)) limit (omega arith) (omega arith))
 
--- refusal 2 is given for the box as for the numbers given, and refusal 3 for the gust
+-- Rules 7.2, 7.3: refusal 2 is given for the box as for the numbers given, and refusal 3 for the gust
 pub narrow-legal : (t : WideBox) → legal (narrowed t) ≡ legal (asGiven t)
 unfolding legal
 narrow-legal t =
