@@ -1,5 +1,5 @@
 -- Laws of the calendar: the closed form of the years, and that numbers keep the order of dates.
-use mathlib.Core.Bool.{Bool, true, false, _&&_, _||_, not, cond}
+use mathlib.Core.Bool.{Bool, true, false, _&&_, _||_, not, cond, false≢true}
 use mathlib.Core.List.{List, [], _∷_}
 use mathlib.Core.Logic.{_⊎_, _⊎_.inl, _⊎_.inr, ⊎-elim}
 use mathlib.Core.Path.{_≡_, refl, sym, ap, subst, _∙_}
@@ -7,25 +7,59 @@ use Prim.Native.Nat.{ℕ, zero, suc, _+_, _-_, _*_, _/_, _%_, _≤_, _<_, max}
 use native.Mathlib.Nat.{le-antisymm}
 use native.Mathlib.Numerals.{add-one}
 use native.Mathlib.Omega.{arith}
-use borrow.Author.Tests.{leb-true, not-true, not-false, eqb-true, eqb-false, ne-eqb, lt-ltb, le-ltb, ltb-true, eq-eqb}
+use borrow.Author.Tests.{leb-true, le-leb, not-true, not-false, eqb-true, eqb-false, ne-eqb, lt-ltb, le-ltb, ltb-true, eq-eqb}
 use lib.Dec.{leb, ltb, eqb, lit≤}
 use lib.ListN.{getD, List·getD-eq-default}
 use Rattle.ground.specs.Boxes.{dayLimit}
-use Rattle.ground.specs.Dates.{firstYear, lastYear, leap, lengthOfYear, lengthOfMonth, monthLengths, isDate, daysBeforeYear, daysBeforeMonth, dayNumber, dayOf, earlier}
-use Rattle.ground.specs.Sums.{total, total-step}
-use Rattle.ground.specs.Tests.{both, three, either, same-test, below-or-not}
+use Rattle.ground.specs.Dates.{firstYear, lastYear, lastDate, dividesBy, leap, lengthOfYear, lengthOfMonth, monthLengths, isDate, daysBeforeYear, daysBeforeMonth, dayNumber, dayOf, earlier}
+use Rattle.ground.specs.Sums.{total, total-step, total-within}
+use Rattle.ground.specs.Tests.{both, three, joint, joint-three, either, same-test, below-or-not}
 use Rattle.ground.specs.declared.dates.Date.{Date}
 use Rattle.ground.specs.declared.dates.DayNumber.the-variants.{Day, NoSuchDate}
 
--- each fourth year from 1880 on has a leap day
-pub years-closed : (n : ℕ) → total (λ k. lengthOfYear (firstYear + k)) n ≡ n * 365 + (n + 3) / 4
+-- each fourth year from 1880 on has a leap day, but of the hundredths, from 1900 on, only each four-hundredth, from 2000 on
+abbrev pub leapDays : ℕ → ℕ
+leapDays n = (n + 3) / 4 - (n + 79) / 100 + (n + 279) / 400
+
+abbrev one-if : Bool → ℕ
+one-if t = cond t 1 0
+
+fourths : (n : ℕ) (t : Bool) → dividesBy (firstYear + n) 4 ≡ t → (suc n + 3) / 4 ≡ (n + 3) / 4 + one-if t
+fourths n true e = let d = eqb-true ((firstYear + n) % 4) 0 e in omega arith
+fourths n false e = let d = eqb-false ((firstYear + n) % 4) 0 e in omega arith
+
+hundredths : (n : ℕ) (t : Bool) → dividesBy (firstYear + n) 100 ≡ t → (suc n + 79) / 100 ≡ (n + 79) / 100 + one-if t
+hundredths n true e = let d = eqb-true ((firstYear + n) % 100) 0 e in omega arith
+hundredths n false e = let d = eqb-false ((firstYear + n) % 100) 0 e in omega arith
+
+four-hundredths : (n : ℕ) (t : Bool) → dividesBy (firstYear + n) 400 ≡ t → (suc n + 279) / 400 ≡ (n + 279) / 400 + one-if t
+four-hundredths n true e = let d = eqb-true ((firstYear + n) % 400) 0 e in omega arith
+four-hundredths n false e = let d = eqb-false ((firstYear + n) % 400) 0 e in omega arith
+
+-- a hundredth is a fourth, and a four-hundredth is a hundredth
+hundredth-is-fourth : (y : ℕ) → dividesBy y 100 ≡ true → dividesBy y 4 ≡ true
+hundredth-is-fourth y e = let d = eqb-true (y % 100) 0 e in eq-eqb (y % 4) 0 (omega arith)
+
+four-hundredth-is-hundredth : (y : ℕ) → dividesBy y 400 ≡ true → dividesBy y 100 ≡ true
+four-hundredth-is-hundredth y e = let d = eqb-true (y % 400) 0 e in eq-eqb (y % 100) 0 (omega arith)
+
+-- one more year adds its leap day; a, b, c: whether its number divides by 4, 100, 400, and f, h, q: how many did before
+one-more : (a b c : Bool) (f h q : ℕ) → (b ≡ true → a ≡ true) → (c ≡ true → b ≡ true) → h ≤ f → cond (a && not b || c) 366 365 + (f - h + q) ≡ 365 + (f + one-if a - (h + one-if b) + (q + one-if c))
+one-more true true true f h q k l p = omega arith
+one-more true true false f h q k l p = omega arith
+one-more true false false f h q k l p = omega arith
+one-more false false false f h q k l p = omega arith
+one-more a false true f h q k l p = absurd (false≢true (l refl))
+one-more false true c f h q k l p = absurd (false≢true (k refl))
+
+pub years-closed : (n : ℕ) → total (λ k. lengthOfYear (firstYear + k)) n ≡ n * 365 + leapDays n
 unfolding total lengthOfYear
 years-closed zero = refl
-years-closed (suc n) = by-leap (leap (firstYear + n)) refl (years-closed n)
-  where
-    by-leap : (l : Bool) → leap (firstYear + n) ≡ l → total (λ k. lengthOfYear (firstYear + k)) n ≡ n * 365 + (n + 3) / 4 → total (λ k. lengthOfYear (firstYear + k)) n + cond (leap (firstYear + n)) 366 365 ≡ suc n * 365 + (suc n + 3) / 4
-    by-leap true e h = let d = eqb-true ((firstYear + n) % 4) 0 e in rw e (omega arith)
-    by-leap false e h = let d = eqb-false ((firstYear + n) % 4) 0 e in rw e (omega arith)
+years-closed (suc n) =
+    let y = firstYear + n in
+    let h = years-closed n in
+    let d = one-more (dividesBy y 4) (dividesBy y 100) (dividesBy y 400) ((n + 3) / 4) ((n + 79) / 100) ((n + 279) / 400) (hundredth-is-fourth y) (four-hundredth-is-hundredth y) (omega arith) in
+    rw (fourths n (dividesBy y 4) refl, hundredths n (dividesBy y 100) refl, four-hundredths n (dividesBy y 400) refl) (omega (arith, h, d))
 
 -- the length of a month, as it is looked up
 module _ (y m : ℕ) where
@@ -109,7 +143,7 @@ pub no-years : (y : ℕ) → y < firstYear → 0 ≡ daysBeforeYear y
 unfolding daysBeforeYear total
 no-years y p = let e : y - firstYear ≡ 0 = omega arith in rw e
 
-pub years-before : (y : ℕ) → (y - firstYear) * 365 + (y - firstYear + 3) / 4 ≡ daysBeforeYear y
+pub years-before : (y : ℕ) → (y - firstYear) * 365 + leapDays (y - firstYear) ≡ daysBeforeYear y
 unfolding daysBeforeYear
 years-before y = sym (years-closed (y - firstYear))
 
@@ -133,6 +167,14 @@ pub months-end : (y m k : ℕ) → k ≤ m → m ≤ max 1 k → daysBeforeMonth
 unfolding daysBeforeMonth total
 months-end y m k p q = let e : m - 1 ≡ k - 1 = omega arith in rw e
 
+-- the day limit is the number of the calendar's last date, and all years together have one day more
+pub limit-is-last : dayOf lastDate ≡ Day dayLimit
+unfolding dayOf isDate lengthOfMonth dayNumber daysBeforeYear daysBeforeMonth lengthOfYear total
+limit-is-last = refl
+
+all-years : total (λ k. lengthOfYear (firstYear + k)) 160 ≡ dayLimit + 1
+all-years = years-closed 160
+
 -- a date lies inside its year, and its year inside the calendar
 module _ (y m d : ℕ) (h : Dated y m d) where
   month-room : daysBeforeMonth y m + lengthOfMonth y m ≤ lengthOfYear y
@@ -153,7 +195,7 @@ module _ (y m d : ℕ) (h : Dated y m d) where
   number-room = omega (arith, month-room)
 
   most-room : daysBeforeYear y + lengthOfYear y ≤ dayLimit + 1
-  most-room = omega (arith, year-step 160 (omega arith), years-closed 160)
+  most-room = omega (arith, year-step 160 (omega arith), all-years)
 
 -- every day number is at most the limit
 pub number-most : (d : Date) → isDate d ≡ true → dayNumber d ≤ dayLimit
@@ -161,6 +203,40 @@ unfolding dayNumber
 number-most d e =
     let h = dated d e in
     omega (arith, number-room (d .year) (d .month) (d .day) h, most-room (d .year) (d .month) (d .day) h)
+
+-- every number up to the limit is some date's
+pub record Numbered (n : ℕ) : Type 0 where
+  pub date : Date
+  pub is-date : isDate date ≡ true
+  pub number : dayNumber date ≡ n
+
+dated-so : (y m d : ℕ) → Dated y m d → isDate (record { year = y; month = m; day = d }) ≡ true
+unfolding isDate
+dated-so y m d h =
+    joint (leb firstYear y && leb y lastYear && leb 1 d) (leb d (lengthOfMonth y m))
+    (joint-three (leb firstYear y) (leb y lastYear) (leb 1 d) (le-leb firstYear y (h .first)) (le-leb y lastYear (h .last)) (le-leb 1 d (h .start)))
+    (le-leb d (lengthOfMonth y m) (h .end))
+
+-- the date that lies so many whole years, then months, then days after the first
+dated-after : (n k j i : ℕ) → k < 160 → j < 12 → i < lengthOfMonth (firstYear + k) (j + 1) → total (λ y. lengthOfYear (firstYear + y)) k + total (λ m. lengthOfMonth (firstYear + k) (m + 1)) j + i ≡ n → Numbered n
+unfolding dayNumber daysBeforeYear daysBeforeMonth
+dated-after n k j i p q r whole =
+    let e : firstYear + k - firstYear ≡ k = omega arith in
+    let f : j + 1 - 1 ≡ j = omega arith in
+    let g : i + 1 - 1 ≡ i = omega arith in
+    record {
+      date = record { year = firstYear + k; month = j + 1; day = i + 1 };
+      is-date = dated-so (firstYear + k) (j + 1) (i + 1) (record { first = omega arith; last = omega arith; start = omega arith; end = omega arith; month = omega arith; months = omega arith });
+      number = rw (e, f, g) whole;
+    }
+
+pub every-number : (n : ℕ) → n ≤ dayLimit → Numbered n
+every-number n p =
+    let y = total-within (λ k. lengthOfYear (firstYear + k)) n 160 (omega (arith, all-years)) in
+    let left = n - total (λ k. lengthOfYear (firstYear + k)) (y .term) in
+    let m = total-within (λ k. lengthOfMonth (firstYear + y .term) (k + 1)) left 12 (omega (arith, y .start, y .end, months-make-year (firstYear + y .term))) in
+    let day = left - total (λ k. lengthOfMonth (firstYear + y .term) (k + 1)) (m .term) in
+    dated-after n (y .term) (m .term) day (y .inside) (m .inside) (omega (arith, m .start, m .end)) (omega (arith, y .start, m .start))
 
 -- the rule, as it is computed from the days before the year (u) and the month (v)
 pub day-lacks : (d : Date) → not (isDate d) ≡ true → NoSuchDate ≡ dayOf d
