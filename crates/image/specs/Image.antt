@@ -11,9 +11,9 @@ use Rattle.image.specs.declared.ImagePages.the-variants.{Pages, WrongSiz
 use Rattle.pages.specs.Layout.{mostPages, pagesIn}
 use Rattle.pages.specs.declared.Small.{Small}
 
--- The form of the images that this book saves.
+-- The form of the images that this book saves; request W3 made it 2, since days have other numbers than in form 1.
 abbrev pub imageForm : ℕ
-imageForm = 1
+imageForm = 2
 
 -- Length is 340 × pages + 22.
 abbrev pub imageLength : ℕ → ℕ

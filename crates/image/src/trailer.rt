@@ -22,8 +22,8 @@ pub struct Trailer {
 
 impl Trailer {
     pub const BYTES: usize = 22;
-    // The one place that says which form images have.
-    pub const FORM: u16 = 1;
+    // The one place that says which form images have. Form 1 numbered days by another calendar, and is refused.
+    pub const FORM: u16 = 2;
 
     // The trailer of an image: its last 22 bytes.
     pub fn read(image: &[u8]) -> Trailer
