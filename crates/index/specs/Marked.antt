@@ -23,7 +23,7 @@ use Rattle.rules.specs.Recording.{growth, goesBefore, leastGrown, choose, leafE
 use Rattle.rules.specs.Record.{Called, Reply.Refused, Reply.Answered, refusal, recordInto, refused}
 use Rattle.index.specs.Calls.{counted}
 use Rattle.index.specs.declared.Counted.the-variants.{Counts}
--- The dates: 1880-03-01 is day 60; 1900-01-01 is 7,305; 2039-12-31 is 58,439.
+-- The dates: 1880-03-01 is day 60; 1900-01-01 is 7,305; 2039-12-31 is 58,438.
 pub use Rattle.ground.specs.Examples.{first-of-march, new-century, last-day}
 -- Held 15 to 20, new 10 to 29 weaker, other axes equal: not cut.
 pub use Rattle.ground.specs.Examples.{two-ends-stay}
