@@ -1,6 +1,6 @@
 -- `ground::dates::days_before_year` meets its contract.
 use borrow.Author.Needs.{needs}
-use Rattle.ground.specs.DateLaws.{no-years, years-before}
+use Rattle.ground.specs.YearLaws.{no-years, years-before}
 use Rattle.ground.proofs.dates.days_before_year.Statement.{statement}
 use Rattle.ground.proofs.dates.days_before_year.Tie as tie
 
