@@ -46,7 +46,7 @@ struct gust_small {
     uint32_t root, height, accepted, struck, covered;
 };
 
-/* A box of ground and days, both ends of each range inside: kilometre squares 0 to 4,095, days 0 to 58,439. */
+/* A box of ground and days, both ends of each range inside: kilometre squares 0 to 4,095, days 0 to 58,438. */
 struct gust_box {
     uint32_t east_low, east_high, north_low, north_high, day_low, day_high;
 };

@@ -4,6 +4,17 @@ pub mod twice;
 
 use second::{clear, record_sound, SmallRecord, LIMITS, PAGE_WORDS};
 
+/// All the ground and all the days.
+pub const WHOLE: [u32; 6] = [0, LIMITS[0], 0, LIMITS[1], 0, LIMITS[2]];
+
+/// All dates that could be typed, year, month and day, from before the calendar's first to after its last, in order:
+/// those that it lacks are among them.
+pub fn all_dates() -> impl Iterator<Item = (u32, u32, u32)> {
+    (1879..=2040)
+        .flat_map(|year| (0..=13).map(move |month| (year, month)))
+        .flat_map(|(year, month)| (0..=32).map(move |day| (year, month, day)))
+}
+
 /// A small generator of numbers, so that a run can be repeated from its seed.
 pub struct Seed(pub u64);
 
@@ -99,12 +110,12 @@ pub fn related(old: [u32; 6], seed: &mut Seed) -> [u32; 6] {
 /// A question of about so many parts in a million of the whole volume, somewhere in it.
 pub fn question(parts: u32, seed: &mut Seed) -> [u32; 6] {
     let side = (f64::from(parts) / 1e6).cbrt();
-    let mut range = |limit: u32| {
-        let long = ((f64::from(limit) * side) as u32).clamp(1, limit);
-        let low = seed.below(limit - long + 1);
+    let mut range = |all: u32| {
+        let long = ((f64::from(all) * side) as u32).clamp(1, all);
+        let low = seed.below(all - long + 1);
         [low, low + long - 1]
     };
-    let (e, n, d) = (range(4_096), range(4_096), range(58_440));
+    let [e, n, d] = LIMITS.map(|limit| range(limit + 1));
     [e[0], e[1], n[0], n[1], d[0], d[1]]
 }
 
@@ -137,7 +148,7 @@ pub fn chain(pages: usize) -> (Vec<u16>, [u32; 5]) {
         page[0] = (pages - p) as u16;
         page[1] = 1;
         // A box that the question touches but does not cover, with a strongest box elsewhere.
-        page[2..8].copy_from_slice(&[0, 4_095, 0, 4_095, 0, 58_439]);
+        page[2..8].copy_from_slice(&WHOLE.map(|end| end as u16));
         page[8] = 7;
         page[10] = (p + 1) as u16;
         page[11..17].copy_from_slice(&[9, 9, 9, 9, 9, 9]);

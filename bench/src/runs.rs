@@ -1,6 +1,6 @@
 //! Runs of calls made from a seed, each call chosen as the book then stands.
 use crate::twice::{small_record, Call, Lent, Said};
-use crate::{question, related, Record, Seed, Spread};
+use crate::{question, related, Record, Seed, Spread, WHOLE};
 use second::{well_formed, LIMITS, PAGE_WORDS};
 use std::collections::VecDeque;
 
@@ -110,8 +110,6 @@ pub struct Chooser<'a> {
     full: bool,
 }
 
-const WHOLE: [u32; 6] = [0, 4_095, 0, 4_095, 0, 58_439];
-
 impl<'a> Chooser<'a> {
     pub fn new(style: &'a Style, seed: Seed) -> Self {
         let waiting = VecDeque::from([Call::Clear]);
@@ -216,7 +214,14 @@ impl<'a> Chooser<'a> {
         if seed.one_in(40) {
             let at = seed.below(6) as usize;
             let old = place[at];
-            place[at] = seed.pick(&[4_096, 58_440, 65_535, 65_536 + old, u32::MAX, old + 1]);
+            place[at] = seed.pick(&[
+                LIMITS[0] + 1,
+                LIMITS[2] + 1,
+                65_535,
+                65_536 + old,
+                u32::MAX,
+                old + 1,
+            ]);
         }
         place
     }

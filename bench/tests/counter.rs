@@ -2,11 +2,13 @@
 //! A failure prints its seed and the shortest transcript that shows it; so does an answer that never came up.
 use bench::twice::shortest;
 use bench::{question, related, Record, Seed, Spread, DENSE, SPARSE};
+use second::day_number;
 use std::collections::BTreeMap;
 use std::fs::File;
 use std::io::{BufRead, BufReader, Read, Write};
 use std::path::Path;
 use std::process::{Command, Stdio};
+use std::sync::LazyLock;
 use std::time::Instant;
 
 const PROVED: &str = concat!(env!("CARGO_MANIFEST_DIR"), "/../target/bin/gust");
@@ -33,22 +35,20 @@ fn answers(program: &str, pieces: Vec<Vec<u8>>) -> Vec<u8> {
     said
 }
 
-/// The first and last year, the lengths of months, and a day's date.
-fn date(day: u32) -> String {
-    let (mut year, mut left) = (1880, day);
-    let days = |year: u32| if year.is_multiple_of(4) { 366 } else { 365 };
-    while left >= days(year) {
-        left -= days(year);
-        year += 1;
+/// Every date of the calendar as it is typed, in the order of their numbers.
+static DATES: LazyLock<Vec<String>> = LazyLock::new(|| {
+    let mut dates = Vec::new();
+    for (year, month, day) in bench::all_dates() {
+        if let Some(number) = day_number(year, month, day) {
+            assert_eq!(number as usize, dates.len());
+            dates.push(format!("{year}-{month:02}-{day:02}"));
+        }
     }
-    let february = days(year) - 337;
-    let months = [31, february, 31, 30, 31, 30, 31, 31, 30, 31, 30, 31];
-    let mut month = 0;
-    while left >= months[month] {
-        left -= months[month];
-        month += 1;
-    }
-    format!("{year}-{:02}-{:02}", month + 1, left + 1)
+    dates
+});
+
+fn date(day: u32) -> &'static str {
+    &DATES[day as usize]
 }
 
 fn ends([e0, e1, n0, n1, d0, d1]: [u32; 6]) -> String {

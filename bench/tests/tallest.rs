@@ -1,10 +1,9 @@
 //! The tallest books, within 1 MiB of stack. One test in a file by itself: a thread that ended before would leave its larger stack to the next.
 use bench::twice::{sides, Call, Lent, Said, Twice};
-use bench::{chain, two_chains, Seed};
+use bench::{chain, two_chains, Seed, WHOLE};
 
 const LEFT: [u16; 6] = [0, 9, 0, 9, 0, 9];
 const RIGHT: [u16; 6] = [100, 109, 0, 9, 0, 9];
-const WHOLE: [u32; 6] = [0, 4_095, 0, 4_095, 0, 58_439];
 const CORNER: [u32; 6] = [0; 6];
 
 fn lent((table, small): (Vec<u16>, [u32; 5])) -> Lent {

@@ -6,8 +6,14 @@ const LAST_YEAR: u32 = 2039;
 /// Month lengths of a year with 365 days.
 const MONTH_LENGTHS: [u32; 12] = [31, 28, 31, 30, 31, 30, 31, 31, 30, 31, 30, 31];
 
+/// The Gregorian rule.
 fn is_long(year: u32) -> bool {
-    year.is_multiple_of(4)
+    year.is_multiple_of(4) && !year.is_multiple_of(100) || year.is_multiple_of(400)
+}
+
+/// The long years from year 1 to the one named.
+const fn long_years(year: u32) -> u32 {
+    year / 4 - year / 100 + year / 400
 }
 
 fn month_length(year: u32, month: u32) -> u32 {
@@ -21,9 +27,8 @@ pub fn day_number(year: u32, month: u32, day: u32) -> Option<u32> {
     if !known || day < 1 || day > month_length(year, month) {
         return None;
     }
-    let years = year - FIRST_YEAR;
-    // The first year is a long one, so the long years before are counted upwards.
-    let before_year = years * 365 + years.div_ceil(4);
+    let leap_days = long_years(year - 1) - long_years(FIRST_YEAR - 1);
+    let before_year = (year - FIRST_YEAR) * 365 + leap_days;
     let before_month: u32 = (1..month).map(|m| month_length(year, m)).sum();
     Some(before_year + before_month + day - 1)
 }

@@ -6,7 +6,7 @@ use crate::Refusal;
 pub type Ground = [u16; 6];
 
 /// The highest cell of each axis.
-pub const LIMITS: [u32; 3] = [4_095, 4_095, 58_439];
+pub const LIMITS: [u32; 3] = [4_095, 4_095, 58_438];
 
 /// A box as a caller hands it in; both ends of each range are inside.
 #[derive(Clone, Copy, Debug, PartialEq, Eq, Hash)]

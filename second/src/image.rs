@@ -7,8 +7,9 @@ use crate::{Refusal, SmallRecord};
 pub const PAGE_BYTES: usize = 2 * PAGE_WORDS;
 /// Bytes of the trailer.
 pub const TRAILER_BYTES: usize = 22;
-/// The one form of image there is.
-const FORM: u16 = 1;
+/// The one form of image there is: day numbers by the Gregorian calendar.
+/// Form 1 had a 29 February 1900, so its days from then on are others.
+const FORM: u16 = 2;
 
 /// The image's length for a table of that many pages.
 pub fn image_length(pages: usize) -> usize {

@@ -2,7 +2,7 @@
 
 mod common;
 
-use common::{lone_entry, put_chain, record_entry, tallest_book, Book};
+use common::{lone_entry, put_chain, record_entry, tallest_book, Book, WHOLE};
 use second::{Answer, Recorded, Refusal, Verdict, PAGE_WORDS};
 
 fn on_a_small_stack(work: impl FnOnce() + Send + 'static) {
@@ -59,7 +59,7 @@ fn a_struck_chain_brings_the_tallest_book_down() {
 fn the_tallest_book_is_emptied() {
     on_a_small_stack(|| {
         let mut book = tallest_book(LEFT, RIGHT);
-        let kept = book.record([0, 4_095, 0, 4_095, 0, 58_439], 100);
+        let kept = book.record(WHOLE, 100);
         assert_eq!(kept, recorded(Verdict::Kept, 2));
         assert_eq!((book.held(), book.small.height), (Some(1), 1));
         assert_eq!(book.small.root, 0);

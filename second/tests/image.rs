@@ -30,7 +30,7 @@ fn the_trailer_points_back() {
     trailer.extend(accepted.to_le_bytes());
     trailer.extend(struck.to_le_bytes());
     trailer.extend(covered.to_le_bytes());
-    trailer.extend([1, 0]);
+    trailer.extend([2, 0]);
     assert_eq!(image[340 * 12..], trailer);
 }
 
@@ -92,7 +92,7 @@ fn trailers_are_refused_before_pages() {
             image
         })
         .collect();
-    for (byte, value) in [(4, 11), (4, 13), (5, 1), (20, 0), (20, 2), (21, 1)] {
+    for (byte, value) in [(4, 11), (4, 13), (5, 1), (20, 0), (20, 1), (20, 3), (21, 1)] {
         let mut image = image.clone();
         image[at + byte] = value;
         spoilt.push(image);

@@ -90,7 +90,7 @@ fn one(line: &str) -> String {
     String::from_utf8(out).unwrap()
 }
 
-const BAD_LINES: [&str; 34] = [
+const BAD_LINES: [&str; 35] = [
     " count",
     "count ",
     "count\r",
@@ -117,6 +117,7 @@ const BAD_LINES: [&str; 34] = [
     "ask 1 2 3 4 1900-00-01 1900-01-02",
     "ask 1 2 3 4 1900-13-01 1900-01-02",
     "ask 1 2 3 4 1901-02-29 1901-03-02",
+    "ask 1 2 3 4 1900-02-29 1900-03-02",
     "ask 1 2 3 4 1900-04-31 1900-05-02",
     "ask 1 2 3 4 1900-01-00 1900-01-02",
     "ask 1 2 3 4 01900-01-1 1900-01-02",
@@ -142,7 +143,7 @@ fn lines_of_other_forms() {
 fn lines_that_are_read_and_then_refused_or_answered() {
     let lines = [
         (
-            "add 00010 00019 1 2 1900-02-29 1900-02-29 00250",
+            "add 00010 00019 1 2 2000-02-29 2000-02-29 00250",
             "kept struck 0\n",
         ),
         ("add 99999 99999 1 2 1900-01-01 1900-01-01 1", "refused 2\n"),

@@ -4,7 +4,7 @@ mod common;
 
 use common::slow::{answer, held_if_well_formed};
 use common::{lone_entry, next_box, next_gust, put_page, record_entry, Book, Rng, STYLES};
-use second::{clear, count, image_length, save, GustBox, Refusal, SmallRecord};
+use second::{clear, count, image_length, save, GustBox, Refusal, SmallRecord, LIMITS};
 
 /// Fresh books to be spoilt, of all styles.
 fn books(rng: &mut Rng) -> Vec<Book> {
@@ -92,9 +92,8 @@ fn answers_on_spoilt_books_follow_the_words() {
 
 /// The refusal that recording must give before it looks at the free pages.
 fn expected_refusal(book: &Book, ends: [u32; 6], gust: u32) -> Option<Refusal> {
-    let limits = [4_095, 4_095, 58_439];
     let bad =
-        |axis: usize| ends[2 * axis] > ends[2 * axis + 1] || ends[2 * axis + 1] > limits[axis];
+        |axis: usize| ends[2 * axis] > ends[2 * axis + 1] || ends[2 * axis + 1] > LIMITS[axis];
     if (0..3).any(bad) {
         return Some(Refusal::Box);
     }

@@ -29,7 +29,7 @@ use Rattle.rules.specs.Record.{Called, Reply.Refused, Reply.Answered, refusal, 
 use Rattle.index.specs.Calls.{countAnswer, CountSaid.Numbers}
 use Rattle.index.specs.Run.{Book, run}
 use Rattle.examples.specs.InTurn.{callsOf, bookOf, passOne, allPass, in-turn}
--- The dates: 1880-03-01 is day 60; 1900-01-01 is 7,305; 2039-12-31 is 58,439.
+-- The dates: 1880-03-01 is day 60; 1900-01-01 is 7,305; 2039-12-31 is 58,438.
 pub use Rattle.ground.specs.Examples.{first-of-march, new-century, last-day}
 
 -- a box by its six numbers: 1900-01-01 is day 7,305

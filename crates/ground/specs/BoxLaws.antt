@@ -1,10 +1,10 @@
 -- Laws of boxes: touching, covering, joining and size. The storeys above cite these and open no definition of a box.
 use mathlib.Core.Bool.{true}
 use mathlib.Core.Path.{_≡_}
-use Prim.Native.Nat.{ℕ, _*_, _^_, _≤_, _<_}
+use Prim.Native.Nat.{ℕ, _+_, _*_, _^_, _≤_, _<_}
 use native.Mathlib.Nat.{mul-le-mul, mul-pos}
 use native.Mathlib.Omega.{arith}
-use Rattle.ground.specs.Boxes.{touches, covers, size, lengthOn, join, legal}
+use Rattle.ground.specs.Boxes.{eastLimit, northLimit, dayLimit, touches, covers, size, lengthOn, join, legal}
 use Rattle.ground.specs.Facts.{Touching, Covering, Legal, touching, touches-so, covering, covers-so, lawful, legal-so}
 use Rattle.ground.specs.Tests.{same-test}
 use Rattle.ground.specs.declared.boxes.Range.{Range}
@@ -98,7 +98,7 @@ lawful-join a b h k = omega arith
 pub join-legal : (a b : Box) → legal a ≡ true → legal b ≡ true → legal (join a b) ≡ true
 join-legal a b p q = legal-so (join a b) (lawful-join a b (lawful a p) (lawful b q))
 
--- size grows with covering; a legal box has at least one cell and at most 4,096 × 4,096 × 58,440
+-- size grows with covering; a legal box has at least one cell, and at most those of all the ground on all days
 pub size-grows : (a b : Box) → covers a b ≡ true → size b ≤ size a
 unfolding size
 size-grows a b p =
@@ -109,9 +109,9 @@ pub size-least : (b : Box) → legal b ≡ true → 0 < size b
 unfolding size
 size-least b e = let h = lawful b e in mul-pos (mul-pos (omega arith) (omega arith)) (omega arith)
 
-pub size-most : (b : Box) → legal b ≡ true → size b ≤ 4_096 * 4_096 * 58_440
+pub size-most : (b : Box) → legal b ≡ true → size b ≤ (eastLimit + 1) * (northLimit + 1) * (dayLimit + 1)
 unfolding size
-size-most b e = let h = lawful b e in mul-le-mul {n₂ = 4_096 * 4_096} {m₂ = 58_440} (mul-le-mul {n₂ = 4_096} {m₂ = 4_096} (omega arith) (omega arith)) (omega arith)
+size-most b e = let h = lawful b e in mul-le-mul {n₂ = (eastLimit + 1) * (northLimit + 1)} {m₂ = dayLimit + 1} (mul-le-mul {n₂ = eastLimit + 1} {m₂ = northLimit + 1} (omega arith) (omega arith)) (omega arith)
 
 -- the size of any box of 16-bit numbers is at most 2 ^ 48
 pub products : (x y z : ℕ) → x ≤ 2 ^ 16 → y ≤ 2 ^ 16 → z ≤ 2 ^ 16 → (x * y ≤ 2 ^ 32) × (x * y * z ≤ 2 ^ 48)

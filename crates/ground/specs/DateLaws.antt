@@ -1,31 +1,21 @@
--- Laws of the calendar: the closed form of the years, and that numbers keep the order of dates.
+-- Laws of the calendar: numbers keep the order of dates, and every number up to the day limit is one date's.
 use mathlib.Core.Bool.{Bool, true, false, _&&_, _||_, not, cond}
 use mathlib.Core.List.{List, [], _∷_}
-use mathlib.Core.Logic.{_⊎_, _⊎_.inl, _⊎_.inr, ⊎-elim}
+use mathlib.Core.Logic.{⊎-elim}
 use mathlib.Core.Path.{_≡_, refl, sym, ap, subst, _∙_}
-use Prim.Native.Nat.{ℕ, zero, suc, _+_, _-_, _*_, _/_, _%_, _≤_, _<_, max}
+use Prim.Native.Nat.{ℕ, zero, suc, _+_, _-_, _≤_, _<_, max}
 use native.Mathlib.Nat.{le-antisymm}
 use native.Mathlib.Numerals.{add-one}
 use native.Mathlib.Omega.{arith}
-use borrow.Author.Tests.{leb-true, not-true, not-false, eqb-true, eqb-false, ne-eqb, lt-ltb, le-ltb, ltb-true, eq-eqb}
+use borrow.Author.Tests.{leb-true, le-leb, not-true, not-false, eqb-true, ne-eqb, lt-ltb, le-ltb, ltb-true, eq-eqb}
 use lib.Dec.{leb, ltb, eqb, lit≤}
 use lib.ListN.{getD, List·getD-eq-default}
 use Rattle.ground.specs.Boxes.{dayLimit}
-use Rattle.ground.specs.Dates.{firstYear, lastYear, leap, lengthOfYear, lengthOfMonth, monthLengths, isDate, daysBeforeYear, daysBeforeMonth, dayNumber, dayOf, earlier}
-use Rattle.ground.specs.Sums.{total, total-step}
-use Rattle.ground.specs.Tests.{both, three, either, same-test, below-or-not}
+use Rattle.ground.specs.Dates.{firstYear, lastYear, lastDate, leap, lengthOfYear, lengthOfMonth, monthLengths, isDate, daysBeforeYear, daysBeforeMonth, dayNumber, dayOf, earlier}
+use Rattle.ground.specs.Sums.{total, total-step, total-within}
+use Rattle.ground.specs.Tests.{both, three, joint, joint-three, either, same-test, below-or-not}
 use Rattle.ground.specs.declared.dates.Date.{Date}
 use Rattle.ground.specs.declared.dates.DayNumber.the-variants.{Day, NoSuchDate}
-
--- each fourth year from 1880 on has a leap day
-pub years-closed : (n : ℕ) → total (λ k. lengthOfYear (firstYear + k)) n ≡ n * 365 + (n + 3) / 4
-unfolding total lengthOfYear
-years-closed zero = refl
-years-closed (suc n) = by-leap (leap (firstYear + n)) refl (years-closed n)
-  where
-    by-leap : (l : Bool) → leap (firstYear + n) ≡ l → total (λ k. lengthOfYear (firstYear + k)) n ≡ n * 365 + (n + 3) / 4 → total (λ k. lengthOfYear (firstYear + k)) n + cond (leap (firstYear + n)) 366 365 ≡ suc n * 365 + (suc n + 3) / 4
-    by-leap true e h = let d = eqb-true ((firstYear + n) % 4) 0 e in rw e (omega arith)
-    by-leap false e h = let d = eqb-false ((firstYear + n) % 4) 0 e in rw e (omega arith)
 
 -- the length of a month, as it is looked up
 module _ (y m : ℕ) where
@@ -104,15 +94,7 @@ dated d e =
       months = ⊎-elim (λ p. let z = no-month-past (d .year) (d .month) p in omega arith) (λ q. q) (below-or-not 12 (d .month));
     }
 
--- the days before a year or a month, as they are computed
-pub no-years : (y : ℕ) → y < firstYear → 0 ≡ daysBeforeYear y
-unfolding daysBeforeYear total
-no-years y p = let e : y - firstYear ≡ 0 = omega arith in rw e
-
-pub years-before : (y : ℕ) → (y - firstYear) * 365 + (y - firstYear + 3) / 4 ≡ daysBeforeYear y
-unfolding daysBeforeYear
-years-before y = sym (years-closed (y - firstYear))
-
+-- the days before a month, as they are computed
 pub months-start : (y : ℕ) → 0 ≡ daysBeforeMonth y 1
 unfolding daysBeforeMonth total
 months-start y = refl
@@ -132,6 +114,15 @@ months-next y m p = by-month m p
 pub months-end : (y m k : ℕ) → k ≤ m → m ≤ max 1 k → daysBeforeMonth y m ≡ daysBeforeMonth y k
 unfolding daysBeforeMonth total
 months-end y m k p q = let e : m - 1 ≡ k - 1 = omega arith in rw e
+
+-- the day limit is the number of the calendar's last date, and all years together have one day more
+pub limit-is-last : dayOf lastDate ≡ Day dayLimit
+unfolding dayOf isDate lengthOfMonth dayNumber daysBeforeYear daysBeforeMonth lengthOfYear total
+limit-is-last = refl
+
+all-years : total (λ k. lengthOfYear (firstYear + k)) 160 ≡ dayLimit + 1
+unfolding total lengthOfYear
+all-years = refl
 
 -- a date lies inside its year, and its year inside the calendar
 module _ (y m d : ℕ) (h : Dated y m d) where
@@ -153,7 +144,7 @@ module _ (y m d : ℕ) (h : Dated y m d) where
   number-room = omega (arith, month-room)
 
   most-room : daysBeforeYear y + lengthOfYear y ≤ dayLimit + 1
-  most-room = omega (arith, year-step 160 (omega arith), years-closed 160)
+  most-room = omega (arith, year-step 160 (omega arith), all-years)
 
 -- every day number is at most the limit
 pub number-most : (d : Date) → isDate d ≡ true → dayNumber d ≤ dayLimit
@@ -161,6 +152,40 @@ unfolding dayNumber
 number-most d e =
     let h = dated d e in
     omega (arith, number-room (d .year) (d .month) (d .day) h, most-room (d .year) (d .month) (d .day) h)
+
+-- every number up to the limit is some date's
+pub record Numbered (n : ℕ) : Type 0 where
+  pub date : Date
+  pub is-date : isDate date ≡ true
+  pub number : dayNumber date ≡ n
+
+dated-so : (y m d : ℕ) → Dated y m d → isDate (record { year = y; month = m; day = d }) ≡ true
+unfolding isDate
+dated-so y m d h =
+    joint (leb firstYear y && leb y lastYear && leb 1 d) (leb d (lengthOfMonth y m))
+    (joint-three (leb firstYear y) (leb y lastYear) (leb 1 d) (le-leb firstYear y (h .first)) (le-leb y lastYear (h .last)) (le-leb 1 d (h .start)))
+    (le-leb d (lengthOfMonth y m) (h .end))
+
+-- the date that lies so many whole years, then months, then days after the first
+dated-after : (n k j i : ℕ) → k < 160 → j < 12 → i < lengthOfMonth (firstYear + k) (j + 1) → total (λ y. lengthOfYear (firstYear + y)) k + total (λ m. lengthOfMonth (firstYear + k) (m + 1)) j + i ≡ n → Numbered n
+unfolding dayNumber daysBeforeYear daysBeforeMonth
+dated-after n k j i p q r whole =
+    let e : firstYear + k - firstYear ≡ k = omega arith in
+    let f : j + 1 - 1 ≡ j = omega arith in
+    let g : i + 1 - 1 ≡ i = omega arith in
+    record {
+      date = record { year = firstYear + k; month = j + 1; day = i + 1 };
+      is-date = dated-so (firstYear + k) (j + 1) (i + 1) (record { first = omega arith; last = omega arith; start = omega arith; end = omega arith; month = omega arith; months = omega arith });
+      number = rw (e, f, g) whole;
+    }
+
+pub every-number : (n : ℕ) → n ≤ dayLimit → Numbered n
+every-number n p =
+    let y = total-within (λ k. lengthOfYear (firstYear + k)) n 160 (omega (arith, all-years)) in
+    let left = n - total (λ k. lengthOfYear (firstYear + k)) (y .term) in
+    let m = total-within (λ k. lengthOfMonth (firstYear + y .term) (k + 1)) left 12 (omega (arith, y .start, y .end, months-make-year (firstYear + y .term))) in
+    let day = left - total (λ k. lengthOfMonth (firstYear + y .term) (k + 1)) (m .term) in
+    dated-after n (y .term) (m .term) day (y .inside) (m .inside) (omega (arith, m .start, m .end)) (omega (arith, y .start, m .start))
 
 -- the rule, as it is computed from the days before the year (u) and the month (v)
 pub day-lacks : (d : Date) → not (isDate d) ≡ true → NoSuchDate ≡ dayOf d

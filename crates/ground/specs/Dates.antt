@@ -1,6 +1,6 @@
--- Document 01, "What the book is": the calendar. Day 0 is 1880-01-01; the last day is 2039-12-31.
+-- The calendar. Day 0 is 1880-01-01; the last day is 2039-12-31.
 use Prim.Native.Nat.{ℕ, _+_, _-_, _%_}
-use mathlib.Core.Bool.{Bool, true, false, _&&_, _||_, cond}
+use mathlib.Core.Bool.{Bool, true, false, _&&_, _||_, not, cond}
 use mathlib.Core.List.{List, [], _∷_}
 use lib.Dec.{leb, ltb, eqb}
 use lib.ListN.{getD}
@@ -15,11 +15,17 @@ firstYear = 1_880
 abbrev pub lastYear : ℕ
 lastYear = 2_039
 
--- A year has 366 days if its number divides by four.
-abbrev pub leap : ℕ → Bool
-leap y = eqb (y % 4) 0
+-- The last date of the calendar. Its number is the day limit (`limit-is-last`).
+abbrev pub lastDate : Date
+lastDate = record { year = lastYear; month = 12; day = 31 }
 
--- Rule 1.33: the days of a year.
+-- Rule 1.33: a year has 366 days if its number divides by 4 and not by 100, or divides by 400.
+abbrev pub dividesBy : ℕ → ℕ → Bool
+dividesBy y n = eqb (y % n) 0
+
+abbrev pub leap : ℕ → Bool
+leap y = dividesBy y 4 && not (dividesBy y 100) || dividesBy y 400
+
 unfoldable pub lengthOfYear : ℕ → ℕ
 lengthOfYear y = cond (leap y) 366 365
 

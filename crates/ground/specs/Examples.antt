@@ -5,6 +5,7 @@ use Prim.Native.Nat.{ℕ}
 use Rattle.ground.specs.Boxes.{touchesOn, touches, covers, legal, gustPasses}
 use Rattle.ground.specs.Cutting.{coversOneEnd, cutsOn, leftOn, left, cut}
 use Rattle.ground.specs.Dates.{lengthOfYear, lengthOfMonth, isDate, daysBeforeYear, daysBeforeMonth, dayNumber, dayOf}
+use Rattle.ground.specs.DateLaws.{limit-is-last}
 use Rattle.ground.specs.Sums.{total}
 use Rattle.ground.specs.declared.boxes.Range.{Range}
 use Rattle.ground.specs.declared.boxes.Box.{Box}
@@ -25,7 +26,7 @@ eastOnly r = record { east = r; north = to 0 9; day = to 0 9 }
 abbrev gust : ℕ → Gust
 gust n = record { tenths = n }
 
--- P: 1880-03-01 is day 60; 1900-01-01 is 7,305; 2039-12-31 is 58,439
+-- P: 1880-03-01 is day 60; 1900-01-01 is 7,305; 2039-12-31 is 58,438, the day limit
 pub first-of-march : dayOf (date 1_880 3 1) ≡ Day 60
 unfolding dayOf isDate lengthOfMonth dayNumber daysBeforeYear daysBeforeMonth lengthOfYear total
 first-of-march = refl
@@ -35,9 +36,21 @@ pub new-century : dayOf (date 1_900 1 1) ≡ Day 7_305
 unfolding dayOf isDate lengthOfMonth dayNumber daysBeforeYear daysBeforeMonth lengthOfYear total
 new-century = refl
 
-pub last-day : dayOf (date 2_039 12 31) ≡ Day 58_439
+pub last-day : dayOf (date 2_039 12 31) ≡ Day 58_438
+last-day = limit-is-last
+
+-- 1900 had no 29 February, so 1900-03-01 is day 7,364; 2000 had one
+pub no-leap-day-in-1900 : dayOf (date 1_900 2 29) ≡ NoSuchDate
+unfolding dayOf isDate lengthOfMonth
+no-leap-day-in-1900 = refl
+
+pub march-of-1900 : dayOf (date 1_900 3 1) ≡ Day 7_364
 unfolding dayOf isDate lengthOfMonth dayNumber daysBeforeYear daysBeforeMonth lengthOfYear total
-last-day = refl
+march-of-1900 = refl
+
+pub leap-day-in-2000 : dayOf (date 2_000 2 29) ≡ Day 43_888
+unfolding dayOf isDate lengthOfMonth dayNumber daysBeforeYear daysBeforeMonth lengthOfYear total
+leap-day-in-2000 = refl
 
 -- the day before the first, the day after the last, and the 30th of February are no dates
 pub before-the-first : dayOf (date 1_879 12 31) ≡ NoSuchDate

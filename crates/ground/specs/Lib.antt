@@ -9,5 +9,6 @@ pub mod Axes
 pub mod BoxLaws
 pub mod CellLaws
 pub mod CutLaws
+pub mod YearLaws
 pub mod DateLaws
 pub mod Examples

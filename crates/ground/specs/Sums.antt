@@ -24,6 +24,24 @@ total-step f i (suc n) p =
     (λ (h : n ≤ i). let e : i ≡ n = omega arith in rw e (omega arith))
     (below-or-not i n)
 
+-- a number below a sum falls into one of its terms
+pub record Within (f : ℕ → ℕ) (x n : ℕ) : Type 0 where
+  pub term : ℕ
+  pub inside : term < n
+  pub start : total f term ≤ x
+  pub end : x < total f term + f term
+
+pub total-within : (f : ℕ → ℕ) (x n : ℕ) → x < total f n → Within f x n
+unfolding total
+total-within f x zero p = absurd (omega arith)
+total-within f x (suc n) p =
+    ⊎-elim
+    (λ (h : x < total f n).
+    let w = total-within f x n h in
+    record { term = w .term; inside = omega (arith, w .inside); start = w .start; end = w .end })
+    (λ (h : total f n ≤ x). record { term = n; inside = omega arith; start = h; end = p })
+    (below-or-not x (total f n))
+
 -- sums of equal terms are equal
 pub total-same : (f g : ℕ → ℕ) (n : ℕ) → ((i : ℕ) → i < n → f i ≡ g i) → total f n ≡ total g n
 unfolding total

@@ -100,7 +100,7 @@ impl Box {
 
     pub const NORTH_LIMIT: u16 = 4095;
 
-    pub const DAY_LIMIT: u16 = 58439;
+    pub const DAY_LIMIT: u16 = 58438;
 
     pub fn touches(self, other: Box) -> bool
         ensures { λ r. ⌜ r ≡ touches self other ⌝ }

@@ -44,7 +44,7 @@ impl Date {
 fn leap_year(year: u32) -> bool
     ensures { λ r. ⌜ r ≡ leap year ⌝ }
 {
-    year % 4 == 0
+    ((year % 4 == 0) & (year % 100 != 0)) | (year % 400 == 0)
 }
 
 // How many days a month of a year has: none if no year has such a month.
@@ -64,7 +64,8 @@ fn length_of_month(year: u32, month: u32) -> u32
     Date::MONTH_LENGTHS[place]
 }
 
-// The years before, each with 365 days, and a leap day for each fourth of them, 1880 the first.
+// The years before, each with 365 days; a leap day for each fourth of them, 1880 the first; none for each hundredth after
+// all, 1900 the first; and again one for each four-hundredth, 2000 the first.
 fn days_before_year(year: u32) -> u64
     ensures { λ r. ⌜ r ≡ daysBeforeYear year ⌝ }
 {
@@ -72,7 +73,8 @@ fn days_before_year(year: u32) -> u64
         return 0;
     }
     let years = (year - Date::FIRST_YEAR) as u64;
-    years * 365 + (years + 3) / 4
+    let leap_days = (years + 3) / 4 - (years + 79) / 100 + (years + 279) / 400;
+    years * 365 + leap_days
 }
 
 fn days_before_month(year: u32, month: u32) -> u64

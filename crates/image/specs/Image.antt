@@ -11,9 +11,9 @@ use Rattle.image.specs.declared.ImagePages.the-variants.{Pages, WrongSiz
 use Rattle.pages.specs.Layout.{pageWords, mostPages, pagesIn}
 use Rattle.pages.specs.declared.Small.{Small}
 
--- The form of the images that this book saves.
+-- Rule 6.5: the form of the images that this book saves. In form 1 days had other numbers.
 abbrev pub imageForm : ℕ
-imageForm = 1
+imageForm = 2
 
 -- Rules 6.1, 6.2, 6.6: a page takes 340 bytes, two for each word, and the trailer 22.
 abbrev pub pageBytes : ℕ

@@ -1,18 +1,18 @@
 -- The trailer as words and as bytes, there and back; what a good trailer says.
-use mathlib.Core.Bool.{true, _&&_}
+use mathlib.Core.Bool.{true, false, _&&_}
 use mathlib.Core.Path.{_≡_, refl, sym, ap, _∙_}
 use mathlib.Core.List.{List, [], _∷_, _++_}
 use Prim.Native.Nat.{ℕ, zero, suc, _+_, _*_, _/_, _%_, _≤_, _<_}
 use native.Mathlib.Nat.{add-mul-mod-self-left}
 use native.Mathlib.Omega.{arith}
-use borrow.Author.Tests.{eqb-true, leb-true, eq-eqb, le-leb}
+use borrow.Author.Tests.{eqb-true, leb-true, eq-eqb, ne-eqb, le-leb}
 use lib.Dec.{leb, eqb}
 use lib.ListN.{length, getD, take, drop, length-drop}
 use lib.Seq.{take-add, take-all, length-take-le}
 use Rattle.ground.specs.Tests.{three, joint-three}
 use Rattle.image.specs.Bytes.{lowFirst, bytes16, bytes32, number, wordBytes, byteWords}
 use Rattle.image.specs.ByteLaws.{Below, below-take, below-drop, number-lowFirst, lowFirst-number, wordBytes-append}
-use Rattle.image.specs.Image.{pageBytes, trailerLength, trailerBytes, trailerIn, trailerGood, field, pagesBack}
+use Rattle.image.specs.Image.{imageForm, pageBytes, trailerLength, trailerBytes, trailerIn, trailerGood, field, pagesBack}
 use Rattle.image.specs.declared.trailer.Trailer.{Trailer}
 
 -- a number of 16 bits is one word, and one of 32 bits two, the low one first
@@ -204,6 +204,14 @@ good-so form pages t h =
     (eq-eqb (t .distance) (pageBytes * back) (h .distance))
     (le-leb 1 back (h .least))
     (le-leb back pages (h .most)))
+
+-- a trailer of another form is not good; so none of form 1 is
+pub other-form : (form pages : ℕ) (t : Trailer) → (t .form ≡ form → ⊥) → trailerGood form pages t ≡ false
+unfolding trailerGood
+other-form form pages t h = rw (ne-eqb (t .form) form h)
+
+pub first-form : (pages : ℕ) (t : Trailer) → t .form ≡ 1 → trailerGood imageForm pages t ≡ false
+first-form pages t e = other-form imageForm pages t (λ h. omega arith)
 
 -- the distance is 340 times a number from 1 to P exactly if it is so with the number that dividing gives
 pub some-pages-back : (t : Trailer) (k : ℕ) → t .distance ≡ pageBytes * k → pagesBack t ≡ k

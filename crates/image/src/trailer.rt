@@ -24,8 +24,8 @@ impl Trailer {
     pub const WORDS: usize = 11;
 
     pub const BYTES: usize = 2 * Trailer::WORDS;
-    // The one place that says which form images have.
-    pub const FORM: u16 = 1;
+    // The one place that says which form images have. Form 1 numbered days by another calendar, and is refused.
+    pub const FORM: u16 = 2;
 
     // The trailer of an image: its last 22 bytes.
     pub fn read(image: &[u8]) -> Trailer

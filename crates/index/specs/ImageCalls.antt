@@ -11,6 +11,7 @@ use Rattle.ground.specs.Tests.{both, three}
 use Rattle.image.specs.ByteLaws.{Below}
 use Rattle.image.specs.Image.{imageForm, imageLength, imageOf, imagePages, trailerOf, trailerGood, smallOf, tableOf as imageTable}
 use Rattle.image.specs.ImageLaws.{Sized, pages-of-length, length-of-pages, image-length, table-length, Savable, loaded-table, loaded-good, loaded-small, saved-again}
+use Rattle.image.specs.TrailerLaws.{first-form}
 use Rattle.image.specs.declared.ImagePages.{ImagePages}
 use Rattle.image.specs.declared.ImagePages.the-variants.{Pages, WrongSize}
 use Rattle.pages.specs.Facts.{fitting}
@@ -48,6 +49,11 @@ savable t s w words =
 not-refused : (image t : List ℕ) (p : ℕ) → imagePages (length image) ≡ Pages p → length t ≡ pageWords * p → trailerGood imageForm p (trailerOf image) ≡ true → imageRefusal image t ≡ 0
 unfolding imageRefusal
 not-refused image t p e l g = rw (e, eq-eqb (length t) (pageWords * p) l, g)
+
+-- an image of form 1, of the right length and for a table of as many pages, is refused by 8
+pub first-form-refused : (image t : List ℕ) (p : ℕ) → imagePages (length image) ≡ Pages p → length t ≡ pageWords * p → trailerOf image .form ≡ 1 → imageRefusal image t ≡ 8
+unfolding imageRefusal
+first-form-refused image t p e l f = rw (e, eq-eqb (length t) (pageWords * p) l, first-form p (trailerOf image) f)
 
 image-comes-back : (t u : List ℕ) (s r : Small) → wellFormed t s ≡ true → Below 65_536 t → length u ≡ length t → loaded (imageOf imageForm t s) u r ≡ unchanged 0 t s
 unfolding loaded

@@ -4,6 +4,7 @@ use mathlib.Core.Path.{_≡_, refl}
 use Prim.Native.Nat.{ℕ}
 use Prim.Native.String.{String}
 use lib.ListN.{replicate}
+use Rattle.ground.specs.Boxes.{dayLimit}
 use Rattle.ground.specs.Dates.{lengthOfYear, lengthOfMonth, isDate, daysBeforeYear, daysBeforeMonth, dayNumber}
 use Rattle.ground.specs.Sums.{total}
 use Rattle.lines.specs.Lines.{text, withByte, words, areDigits, numberFrom, isA, value, areA, values, same, command, commandOf, parsed}
@@ -63,7 +64,7 @@ transcript-printed = refl
 -- Rules 8.5, 8.11: leading zeros are read, and a number of five digits is a number: the book refuses it by 2 or 3
 pub numbers-read :
     map lineTyped ("ask 00000 00007 0 4095 1880-01-01 2039-12-31" ∷ "add 0 65536 0 99999 1880-02-29 1880-03-01 99999" ∷ [])
-    ≡ Ask (box 0 7 0 4_095 0 58_439) ∷ Add (box 0 65_536 0 99_999 59 60) 99_999 ∷ []
+    ≡ Ask (box 0 7 0 4_095 0 dayLimit) ∷ Add (box 0 65_536 0 99_999 59 60) 99_999 ∷ []
 unfolding withByte words areDigits numberFrom isA value areA values same command commandOf parsed isDate lengthOfMonth dayNumber daysBeforeYear daysBeforeMonth lengthOfYear total
 numbers-read = refl
 
@@ -78,14 +79,15 @@ pub lines-refused :
     ∷ "ask 0 0 0 0 1900-01-01"
     ∷ "ask 0 0 0 0 1900-01-01 1900-01-01 5"
     ∷ "add 0 0 0 0 1900-01-01 1900-01-01"
-    ∷ "ask 0 0 0 0 1900-02-29 1904-02-30"
+    ∷ "ask 0 0 0 0 1900-02-29 1904-02-29"
+    ∷ "ask 0 0 0 0 1904-02-29 1904-02-30"
     ∷ "ask 0 0 0 0 1879-12-31 1900-01-01"
     ∷ "ask 0 0 0 0 1900-01-01 2040-01-01"
     ∷ "ask 0 0 0 0 1900-13-01 1900-01-01"
     ∷ "ask 0 0 0 0 1900-1-01 1900-01-01"
     ∷ "ask 0 0 0 0 1900/01/01 1900-01-01"
     ∷ [])
-    ≡ replicate 23 Refused
+    ≡ replicate 24 Refused
 unfolding withByte words areDigits numberFrom isA value areA values same command commandOf parsed isDate lengthOfMonth dayNumber daysBeforeYear daysBeforeMonth lengthOfYear total
 lines-refused = refl
 

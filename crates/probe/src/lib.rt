@@ -1,4 +1,6 @@
 // Recording on a book known to be well-formed, exported for bench/ alone: a shop's own calls cannot know that, and are in gustbook.
+mod dates;
+
 use gustbook::box_of;
 use gustbook::put_small;
 use gustbook::small_of;

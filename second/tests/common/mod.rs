@@ -7,8 +7,11 @@ pub mod slow;
 
 use second::{
     ask, clear, image_length, record_noting, save, Answer, GustBox, Recorded, Refusal, SmallRecord,
-    Tally, PAGE_WORDS,
+    Tally, LIMITS, PAGE_WORDS,
 };
+
+/// All the ground and all the days.
+pub const WHOLE: [u32; 6] = [0, LIMITS[0], 0, LIMITS[1], 0, LIMITS[2]];
 
 /// Marsaglia's xorshift; a seed gives the same numbers every time.
 pub struct Rng(u64);
@@ -143,7 +146,7 @@ fn boxed(axes: [[u32; 2]; 3]) -> [u32; 6] {
 pub fn next_box(rng: &mut Rng, style: Style, earlier: &[([u32; 6], u32)]) -> [u32; 6] {
     match style {
         Style::Dense => boxed([(); 3].map(|()| range(rng, 24, 8))),
-        Style::Sparse => boxed([4_096, 4_096, 58_440].map(|ground| range(rng, ground, 60))),
+        Style::Sparse => boxed(LIMITS.map(|limit| range(rng, limit + 1, 60))),
         Style::Slabs => slab(rng),
         Style::Nested => nested(rng, earlier),
         Style::Cells => {
@@ -188,7 +191,7 @@ fn nested(rng: &mut Rng, earlier: &[([u32; 6], u32)]) -> [u32; 6] {
 
 fn sweep(rng: &mut Rng) -> [u32; 6] {
     let longest = match rng.below(60) {
-        0 => return [0, 4_095, 0, 4_095, 0, 58_439],
+        0 => return WHOLE,
         1..=2 => 400,
         3..=6 => 150,
         _ => 9,
@@ -203,7 +206,7 @@ fn region(rng: &mut Rng) -> [u32; 6] {
     match rng.below(50) {
         0 => [east, east + 31, 0, 31, 0, 31],
         1 => [0, 1_031, 0, 31, 0, 31],
-        2 => [1_000, 4_095, 0, 4_095, 0, 58_439],
+        2 => [1_000, LIMITS[0], 0, LIMITS[1], 0, LIMITS[2]],
         3..=5 => {
             let [low, high] = range(rng, 32, 24);
             [east + low, east + high, 0, 31, 0, 31]

@@ -78,7 +78,7 @@ impl Visit<'_> {
     fn record(&mut self, page: usize, place: usize) -> bool {
         self.held += 1;
         let words = entry(self.table, page, place);
-        let limits = [4095, 4095, 58439];
+        let limits = [4095, 4095, 58438];
         let legal = |x: usize| words[x] <= words[x + 1] && words[x + 1] <= limits[x / 2];
         let blank = words[7..].iter().all(|&word| word == 0);
         [0, 2, 4].into_iter().all(legal) && words[6] <= 1200 && blank

@@ -1,0 +1,2 @@
+-- What the probe tells in numbers.
+pub mod Days
