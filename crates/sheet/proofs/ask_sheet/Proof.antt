@@ -1,6 +1,6 @@
 -- `sheet::ask_sheet` meets its contract. The checker declines a slice of structs, so the code is walked by hand, statement by statement.
 -- The loan of the rows is opened once, before the loop, and closed once, after it. A turn takes row i out, hands it to `answer_row`, and puts what that returns in its place.
-use mathlib.Core.Bool.{not}
+use mathlib.Core.Bool.{Bool, not}
 use mathlib.Core.List.{List, [], _∷_, map}
 use mathlib.Core.Path.{_≡_, refl, sym, _∙_, ap, subst}
 use mathlib.Core.WellFounded.{WellFounded, InvImage·wf}
@@ -244,22 +244,22 @@ module _ {M : Type 1} (𝓤 : URA M) (H : Heap 𝓤) (A : Atoms 𝓤) (W : Given
           move ! (21 ∷ 22 ∷ []) $ free1 ! $ move ! (19 ∷ 20 ∷ []) $ free1 ! $ move ! (17 ∷ 18 ∷ []) $ free1 ! $ move ! (15 ∷ 16 ∷ []) $ free1 ! $ move ! (13 ∷ 14 ∷ []) $ free1 ! $
           move ! (11 ∷ 12 ∷ []) $ free1 ! $ move ! (9 ∷ 10 ∷ []) $ free1 ! $ move ! (7 ∷ 8 ∷ []) $ free1 ! $ move ! (5 ∷ 6 ∷ []) $ free1 ! $ free0 ! $ by ! h
 
-      -- i rows are answered: [the rows; the open loan; seen; its other half; the table's token; the table; the locals]
-      abbrev At : Upto → List (Item 𝓤)
-      At i =
+      -- i rows are answered, after the test c of their number: [the rows; the open loan; seen; its other half; the table's token; the table; the locals]
+      abbrev At : Bool → Upto → List (Item 𝓤)
+      At c i =
           ‵ (row rowT fullShare (done-to i) b o) ∷ ‵ (fobor κ′ q′ (Held rowT n b o γ)) ∷ Seen xs ∷ ‵ (fauth γ (codedHoleys rowT .code (heres rowT xs))) ∷ ‵ (flft κ q) ∷ ‵ Table
-          ∷ of-turn (holds tyBool l₆ (vbool (ltb 32 n)) (holds word l₅ (vint w64 (i .0)) (holds word l₄ (vint w64 n)
+          ∷ of-turn (holds tyBool l₆ (vbool c) (holds word l₅ (vint w64 (i .0)) (holds word l₄ (vint w64 n)
           (holds rowsTy l₃ (sliceVal (b, o) n) (holds S′.mir l₂ vs (holds tableTy l₁ vt (free number l₀ [])))))))
 
-      abbrev Turned : Upto → Out → SProp 𝓤
-      Turned i = afterTurn 𝓤 H (Below 𝓤 H A Nearer At i) (afterBlock 𝓤 H (afterSeq 𝓤 H (Wp 𝓤 H C Λ En mir-of.t-6 (atReturn 𝓤 H En Post)) (atReturn 𝓤 H En Post)))
+      abbrev Turned : Bool → Upto → Out → SProp 𝓤
+      Turned c i = afterTurn 𝓤 H (Below 𝓤 H A Nearer (At c) i) (afterBlock 𝓤 H (afterSeq 𝓤 H (Wp 𝓤 H C Λ En mir-of.t-6 (atReturn 𝓤 H En Post)) (atReturn 𝓤 H En Post)))
 
-      turns : Holds (not (ltb 32 n)) → (i : Upto) → Sq W (At i) (runs C Λ En mir-of.turn-1 (anyQ (Turned i)))
+      turns : (c : Bool) → record { refusal = 0; rows = map answer xs } ≡ sheet table s xs → (i : Upto) → Sq W (At c i) (runs C Λ En mir-of.turn-1 (anyQ (Turned c i)))
       unfolding afterTurn
-      turns few i =
+      turns c said i =
           assigns ! (bin ! (load ! (from ! (stop !)) (look ! (spot 6 5) refl)) (load ! (from ! (stop !)) (look ! (spot 6 4) refl)) tt) (from ! (stop !)) (init ! (spot 6 7) refl (tt, tt)) $
           first ! $ branches ! (load ! (from ! (stop !)) (look ! (spot 6 7) refl))
-          (λ less. skips ! $ exec ! C Λ En (rest (rest mir-of.turn-1)) (anyQ (Turned i)) $
+          (λ less. skips ! $ exec ! C Λ En (rest (rest mir-of.turn-1)) (anyQ (Turned c i)) $
           -- the place of row i, and the row taken out
           assigns ! (bin ! (load ! (from ! (stop !)) (look ! (spot 6 5) refl)) (lit ! tt) (record { fits = offset less }))
           (from ! (stop !)) (init ! (spot 6 9) refl (tt, record { fits = offset less })) $
@@ -296,7 +296,7 @@ module _ {M : Type 1} (𝓤 : URA M) (H : Heap 𝓤) (A : Atoms 𝓤) (W : Given
           (from ! (stop !)) (store ! (spot 6 5) refl (tt, record { fits = fits (next less) })) $
           forget ! (spot 6 13) refl $ forget ! (spot 6 12) refl $ forget ! (spot 6 11) refl $ forget ! (spot 6 10) refl $ forget ! (spot 6 9) refl $ forget ! (spot 6 8) refl $
           forget ! (spot 6 7) refl $
-          again ! Nearer At i (next less) (add-one-dec n (i .0) (ltb→lt (i .0) n less))))))))
+          again ! Nearer (At c) i (next less) (add-one-dec n (i .0) (ltb→lt (i .0) n less))))))))
           (λ over. jumps ! $ exec ! C Λ En mir-of.t-6 (atRet En Post) $
           assigns ! (of-opd ! (lit ! tt)) (from ! (stop !)) (init ! (spot 6 0) refl (tt, record { fits = lit< tt })) $
           rewrite ! 0 (λ (l : List Row). ‵ (row rowT fullShare l b o)) (all-done over) refl $
@@ -304,8 +304,7 @@ module _ {M : Type 1} (𝓤 : URA M) (H : Heap 𝓤) (A : Atoms 𝓤) (W : Given
           returns ! (look ! (spot 5 0) refl) $
           forget ! (spot 5 7) refl $ forget ! (spot 5 6) refl $ forget ! (spot 5 5) refl $ forget ! (spot 5 4) refl $ forget ! (spot 5 3) refl $ forget ! (spot 5 2) refl $
           forget ! (spot 5 1) refl $ forget ! (spot 5 0) refl $
-          leaves _ _ _ _ _ _ (ends (map answer xs) 0 (length-map xs answer) (lit< tt) gr gs
-          (not-chosen (ltb mostRows n) (record { refusal = 11; rows = xs }) (record { refusal = 0; rows = map answer xs }) few)))
+          leaves _ _ _ _ _ _ (ends (map answer xs) 0 (length-map xs answer) (lit< tt) gr gs said))
         where
           fits : (j : Upto) → j .0 < 2 ^ 64
           fits j = lt-of-le-of-lt (j .1) (gr .0)
@@ -337,7 +336,8 @@ module _ {M : Type 1} (𝓤 : URA M) (H : Heap 𝓤) (A : Atoms 𝓤) (W : Given
           (chosen (ltb mostRows n) (record { refusal = 11; rows = xs }) (record { refusal = 0; rows = map answer xs }) many)))
           (λ few. skips ! $ exec ! C Λ En mir-of.t-4 (atRet En Post) $
           assigns ! (of-opd ! (lit ! tt)) (from ! (stop !)) (init ! (spot 5 5) refl (tt, record { fits = lit< tt })) $
-          opens-slice ! tt rowT xs b o $ first ! $ blocks ! $ loops ! 𝓣 Nearer nearer-ends At (turns few) (0, zero-le))
+          opens-slice ! tt rowT xs b o $ first ! $ blocks ! $ loops ! 𝓣 Nearer nearer-ends (At _)
+          (turns _ (not-chosen (ltb mostRows n) (record { refusal = 11; rows = xs }) (record { refusal = 0; rows = map answer xs }) few)) (0, zero-le))
 
     walk : ent 𝓤 (onEntry 𝓤 H A all.signature (κ, (κ′, tt)) (q, (q′, tt)) args vals) (WpFn 𝓤 H C Λ code.function (vt ∷ vs ∷ sliceVal (b, o) n ∷ []) Post)
     walk =
