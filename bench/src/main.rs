@@ -1,6 +1,7 @@
 //! Times the proved library beside the second program, in one process and in turn. Prints one table.
 use bench::twice::{five, record_sound};
 use bench::{book, question, Record, Seed, Spread, DENSE, SPARSE};
+use gustbook::{Row, MOST_ROWS};
 use second::{GustBox, SmallRecord};
 use std::hint::black_box;
 use std::time::{Duration, Instant};
@@ -125,6 +126,40 @@ impl Book {
             &both,
             &remark,
         );
+    }
+
+    /// Sheets of 32 questions; beside them, in turn, the same questions asked one by one.
+    fn sheets(&self) {
+        let seed = &mut Seed::of(32);
+        let places: Vec<[u32; 6]> = (0..4_000).map(|_| question(10_000, seed)).collect();
+        let mut rows: Vec<Row> = places.iter().map(|place| Row::new(*place)).collect();
+        let blank = |place: &[u32; 6]| second::Row {
+            question: (*place).into(),
+            refusal: None,
+            gust: None,
+            pages: 0,
+        };
+        let mut others: Vec<second::Row> = places.iter().map(blank).collect();
+        let (table, small) = (&self.table, &self.small);
+        let mut ours = || {
+            for sheet in rows.chunks_mut(MOST_ROWS) {
+                gustbook::ask_sheet(black_box(table), small, sheet).expect("no more than 32");
+            }
+        };
+        let singles = || {
+            for place in &places {
+                let _ = black_box(gustbook::ask(black_box(table), small, place));
+            }
+        };
+        let mut theirs = || {
+            for sheet in others.chunks_mut(second::MOST_ROWS) {
+                second::ask_sheet(black_box(table), &self.record, sheet).expect("no more than 32");
+            }
+        };
+        let by_one = beside(|| timed(&mut ours), || timed(singles)).ratio;
+        let both = beside(|| timed(&mut ours), || timed(&mut theirs));
+        let remark = format!("a question; {by_one:.2} times the same asked one by one");
+        self.row("ask, sheets of 32", places.len(), &both, &remark);
     }
 
     /// The time of a question put to a plain array of the accepted records.
@@ -285,6 +320,7 @@ fn main() {
             book.asking(1, "0.0001%");
             book.asking(10_000, "1%");
             book.asking(500_000, "50%");
+            book.sheets();
             book.counting();
             book.saving_and_loading();
         }
