@@ -27,6 +27,7 @@ extern "C" {
 
 #define GUST_PAGE_WORDS 170
 #define GUST_MOST_PAGES 4096
+#define GUST_MOST_ROWS 32
 /* The bytes of the image of a book of so many pages. */
 #define GUST_IMAGE_BYTES(pages) (340 * (size_t)(pages) + 22)
 
@@ -38,7 +39,8 @@ enum gust_refusal {
     GUST_SPENT = 5,   /* 1,000,000 records were accepted */
     GUST_FULL = 6,    /* too few free pages */
     GUST_SIZE = 7,    /* an image, or a buffer to save into, of the wrong length */
-    GUST_TRAILER = 8  /* an image with a wrong trailer */
+    GUST_TRAILER = 8, /* an image with a wrong trailer */
+    GUST_SHEET = 11   /* a sheet of more than 32 rows */
 };
 
 /* The small record. Keep it beside its table; only the calls change it. */
@@ -63,6 +65,14 @@ struct gust_asked {
     uint32_t any, gust, pages;
 };
 
+/* A question on a sheet, and the places for its answer: the refusal's number or 0, and then as above; a refused
+ * question's answer is all 0. */
+struct gust_row {
+    struct gust_box place;
+    uint32_t refusal;
+    struct gust_asked answer;
+};
+
 struct gust_counted {
     uint32_t accepted, held, struck, covered;
 };
@@ -77,6 +87,11 @@ uint32_t gust_record(uint16_t *table, size_t words, struct gust_small *small, co
 /* The strongest gust that touches a box. Refusals 1, 2, 4, in this order. */
 uint32_t gust_ask(const uint16_t *table, size_t words, const struct gust_small *small, const struct gust_box *place,
                   struct gust_asked *answer);
+
+/* Fills each row's answer in, as gust_ask gives it; 1, 2 and 4 go into the row that they refuse, and the rest are still
+ * answered. Refusal 11. */
+uint32_t gust_ask_sheet(const uint16_t *table, size_t words, const struct gust_small *small, struct gust_row *rows,
+                        size_t count);
 
 /* Refusals 1, 4, in this order. */
 uint32_t gust_count(const uint16_t *table, size_t words, const struct gust_small *small, struct gust_counted *answer);

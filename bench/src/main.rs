@@ -1,6 +1,7 @@
 //! Times the proved library beside the second program, in one process and in turn. Prints one table.
 use bench::twice::{five, record_sound};
 use bench::{book, question, Record, Seed, Spread, DENSE, SPARSE};
+use gustbook::{Row, MOST_ROWS};
 use second::{GustBox, SmallRecord};
 use std::hint::black_box;
 use std::time::{Duration, Instant};
@@ -42,6 +43,16 @@ fn beside(mut ours: impl FnMut() -> Duration, mut theirs: impl FnMut() -> Durati
         theirs: median(pairs.iter().map(|p| p.1).collect()),
         ratio: median(pairs.iter().map(|p| p.0 / p.1).collect()),
     }
+}
+
+/// How the least times of two compare, over many short rounds in turn.
+fn least(mut one: impl FnMut(), mut other: impl FnMut()) -> f64 {
+    let mut best = [Duration::MAX; 2];
+    for _ in 0..400 {
+        best[0] = best[0].min(timed(&mut one));
+        best[1] = best[1].min(timed(&mut other));
+    }
+    best[0].as_secs_f64() / best[1].as_secs_f64()
 }
 
 /// A book in both programs' words, with the records that it accepted.
@@ -121,6 +132,43 @@ impl Book {
         let remark = format!("{opened:.1} pages opened; a plain scan {scan}");
         self.row(
             &format!("ask, {size} of the volume"),
+            places.len(),
+            &both,
+            &remark,
+        );
+    }
+
+    /// Sheets of 32 questions; beside the first ten of them the same questions asked one by one.
+    fn sheets(&self) {
+        let seed = &mut Seed::of(32);
+        let places: Vec<[u32; 6]> = (0..4_000).map(|_| question(10_000, seed)).collect();
+        let mut rows: Vec<Row> = places.iter().map(|place| Row::new(*place)).collect();
+        let mut others: Vec<second::Row> = places.iter().map(their_row).collect();
+        let (table, small) = (&self.table, &self.small);
+        let ours = |rows: &mut [Row]| {
+            for sheet in rows.chunks_mut(MOST_ROWS) {
+                gustbook::ask_sheet(black_box(table), small, sheet).expect("no more than 32");
+            }
+        };
+        let some = 10 * MOST_ROWS;
+        let singles = || {
+            for place in &places[..some] {
+                let _ = black_box(gustbook::ask(black_box(table), small, place));
+            }
+        };
+        let by_one = least(|| ours(&mut rows[..some]), singles);
+        let theirs = |rows: &mut [second::Row]| {
+            for sheet in rows.chunks_mut(second::MOST_ROWS) {
+                second::ask_sheet(black_box(table), &self.record, sheet).expect("no more than 32");
+            }
+        };
+        let both = beside(
+            || timed(|| ours(&mut rows)),
+            || timed(|| theirs(&mut others)),
+        );
+        let remark = format!("{by_one:.2} times the same asked one by one");
+        self.row(
+            "ask, sheets of 32, a question",
             places.len(),
             &both,
             &remark,
@@ -213,6 +261,16 @@ impl Book {
     }
 }
 
+/// A row of the second program's sheet, not answered yet.
+fn their_row(place: &[u32; 6]) -> second::Row {
+    second::Row {
+        question: (*place).into(),
+        refusal: None,
+        gust: None,
+        pages: 0,
+    }
+}
+
 #[inline(always)]
 fn our_record(table: &mut [u16], small: &mut [u32; 5], (place, gust): &Record, with_pass: bool) {
     let mut answer = [0; 2];
@@ -285,6 +343,7 @@ fn main() {
             book.asking(1, "0.0001%");
             book.asking(10_000, "1%");
             book.asking(500_000, "50%");
+            book.sheets();
             book.counting();
             book.saving_and_loading();
         }

@@ -14,6 +14,7 @@ mod image;
 mod line;
 mod page;
 mod record;
+mod sheet;
 mod sieve;
 mod split;
 mod tally;
@@ -24,6 +25,7 @@ pub use ground::{GustBox, LIMITS};
 pub use image::{image_length, PAGE_BYTES, TRAILER_BYTES};
 pub use line::{Counter, COUNTER_PAGES};
 pub use page::{ENTRY_WORDS, MOST_ENTRIES, MOST_PAGES, PAGE_WORDS};
+pub use sheet::{ask_sheet, Row, MOST_ROWS};
 pub use tally::{Event, Note, Tally};
 
 use ground::Ground;
@@ -69,6 +71,7 @@ pub enum Refusal {
     Size = 7,
     Trailer = 8,
     Line = 9,
+    Sheet = 11,
 }
 
 impl Refusal {

@@ -1,8 +1,9 @@
 //! The gust book's calls, behind safe Rust. `include/gustbook.h` says what each refuses and leaves.
 
-/// Words of a page, and the most pages of a book.
+/// Words of a page, the most pages of a book, and the most rows of a sheet.
 pub const PAGE_WORDS: usize = 170;
 pub const MOST_PAGES: usize = 4_096;
+pub const MOST_ROWS: usize = 32;
 
 /// The bytes of the image of a book of so many pages.
 pub const fn image_bytes(pages: usize) -> usize {
@@ -27,6 +28,13 @@ pub mod raw {
             small: *const [u32; 5],
             place: *const [u32; 6],
             answer: *mut [u32; 3],
+        ) -> u32;
+        pub fn gust_ask_sheet(
+            table: *const u16,
+            words: usize,
+            small: *const [u32; 5],
+            rows: *mut super::Row,
+            count: usize,
         ) -> u32;
         pub fn gust_count(
             table: *const u16,
@@ -56,7 +64,7 @@ pub type Small = [u32; 5];
 /// A box: east low, east high, north low, north high, day low, day high.
 pub type Place = [u32; 6];
 
-/// The number of a refusal, 1 to 8.
+/// The number of a refusal, 1 to 8, or 11 for a sheet that is too long.
 #[derive(Clone, Copy, Debug, PartialEq, Eq)]
 pub struct Refusal(pub u32);
 
@@ -79,6 +87,36 @@ pub struct Recorded {
 pub struct Asked {
     pub gust: Option<u32>,
     pub pages: u32,
+}
+
+/// A question on a sheet, and the places for its answer: the refusal's number or 0; 1 and the gust, or 0 and 0; the pages
+/// opened. A refused question's other numbers are 0.
+#[repr(C)]
+#[derive(Clone, Copy, Debug, PartialEq, Eq)]
+pub struct Row {
+    pub place: Place,
+    pub refusal: u32,
+    pub any: u32,
+    pub gust: u32,
+    pub pages: u32,
+}
+
+impl Row {
+    pub fn new(place: Place) -> Self {
+        Row {
+            place,
+            refusal: 0,
+            any: 0,
+            gust: 0,
+            pages: 0,
+        }
+    }
+
+    /// What `ask` gives for the row's question, once the sheet is answered.
+    pub fn answer(&self) -> Result<Asked, Refusal> {
+        accepted(self.refusal)?;
+        Ok(asked([self.any, self.gust, self.pages]))
+    }
 }
 
 #[derive(Clone, Copy, Debug, PartialEq, Eq)]
@@ -129,9 +167,20 @@ pub fn ask(table: &[u16], small: &Small, place: &Place) -> Result<Asked, Refusal
     let mut answer = [0; 3];
     let (words, len) = (table.as_ptr(), table.len());
     accepted(unsafe { raw::gust_ask(words, len, small, place, &mut answer) })?;
-    let [any, gust, pages] = answer;
+    Ok(asked(answer))
+}
+
+/// The answer to a question, by its three numbers.
+fn asked([any, gust, pages]: [u32; 3]) -> Asked {
     let gust = (any == 1).then_some(gust);
-    Ok(Asked { gust, pages })
+    Asked { gust, pages }
+}
+
+/// Answers each row's question in its place.
+pub fn ask_sheet(table: &[u16], small: &Small, rows: &mut [Row]) -> Result<(), Refusal> {
+    let (words, len) = (table.as_ptr(), table.len());
+    let (sheet, count) = (rows.as_mut_ptr(), rows.len());
+    accepted(unsafe { raw::gust_ask_sheet(words, len, small, sheet, count) })
 }
 
 pub fn count(table: &[u16], small: &Small) -> Result<Counted, Refusal> {
@@ -159,6 +208,28 @@ pub fn load(image: &[u8], table: &mut [u16], small: &mut Small) -> Result<(), Re
 #[cfg(test)]
 mod tests {
     use super::*;
+
+    /// A refused row says so, and the rest are still answered; a sheet of 33 rows is left as it was.
+    #[test]
+    fn a_sheet_of_questions() {
+        let mut table = vec![7; 180 * PAGE_WORDS];
+        let mut small = [9; 5];
+        assert_eq!(clear(&mut table, &mut small), Ok(()));
+        let storm = [10, 19, 10, 19, 7_305, 7_314];
+        assert!(record(&mut table, &mut small, &storm, 250).is_ok());
+        let mut rows = [storm, [5, 4, 0, 0, 0, 0], [20, 25, 0, 9, 0, 9]].map(Row::new);
+        rows[1].pages = 7;
+        assert_eq!(ask_sheet(&table, &small, &mut rows), Ok(()));
+        for row in rows {
+            assert_eq!(row.answer(), ask(&table, &small, &row.place));
+        }
+        assert_eq!([rows[0].gust, rows[1].refusal, rows[1].pages], [250, 2, 0]);
+        let mut long = [rows[1]; MOST_ROWS + 1];
+        assert_eq!(ask_sheet(&table, &small, &mut long), Err(Refusal(11)));
+        assert_eq!(long, [rows[1]; MOST_ROWS + 1]);
+        assert_eq!(ask_sheet(&table[1..], &small, &mut long[1..]), Ok(()));
+        assert!(long[1..].iter().all(|row| row.answer() == Err(Refusal(1))));
+    }
 
     /// The worked example of the rules (9.1), but for its lines.
     #[test]

@@ -1,4 +1,4 @@
-// The calls for C and Rust. A table and an image are a pointer and a length here; the small record, a box and an answer are numbers that the caller lends.
+// The calls for C and Rust. A table, an image and a sheet are a pointer and a length here; the small record, a box and an answer are numbers that the caller lends.
 // Each call returns 0 or the refusal's number. The numbers of a box and a gust are 32 bits wide, so that one out of range is refused and never cut short.
 mod answers;
 mod numbers;
@@ -9,11 +9,13 @@ pub use answers::tell_recorded;
 pub use numbers::box_of;
 pub use numbers::put_small;
 pub use numbers::small_of;
+use sheet::Row;
 use wide::narrow;
 ghost use mathlib.Core.Path.{_≡_};
 ghost use Rattle.asking.specs.Asking.{asked};
 ghost use Rattle.index.specs.Calls.{cleared, counted, saved, loaded};
 ghost use Rattle.rules.specs.Record.{recordInto};
+ghost use Rattle.sheet.specs.Sheet.{sheet};
 ghost use Rattle.gustbook.specs.Boundary.{smallOf, boxOf, leftInNumbers, recordLeaves, askTold, countTold};
 
 // Refusal 1.
@@ -55,6 +57,14 @@ pub extern "C" fn gust_ask(
 {
     let said = asking::ask(table, small_of(small), box_of(place));
     tell_asked(said, answer)
+}
+
+// Refusal 11, of a sheet of more than 32 rows; 1, 2 and 4 go into the rows. An answer: as for gust_ask, and the refusal's number or 0 before it.
+#[no_mangle]
+pub extern "C" fn gust_ask_sheet(table: &[u16], small: &[u32; 5], rows: &mut [Row]) -> u32
+    ensures { λ r. ⌜ record { refusal = r; rows = now (rows .exit) } ≡ sheet (now (table .entry)) (smallOf (now (small .entry))) (now (rows .entry)) ⌝ }
+{
+    sheet::ask_sheet(table, small_of(small), rows)
 }
 
 // Refusals 1 and 4. The answer: accepted, held, struck, covered.
