@@ -87,6 +87,12 @@ impl Spread {
     pub fn record(&self, seed: &mut Seed) -> Record {
         (self.place(seed), seed.below(1_201))
     }
+
+    /// A question of about so many parts in a million of the volume that the records lie in.
+    pub fn question(&self, parts: u32, seed: &mut Seed) -> [u32; 6] {
+        let (ground, days) = (self.ground + self.side, self.days + self.weeks);
+        part_of([ground, ground, days], parts, seed)
+    }
 }
 
 /// A box that has to do with an earlier one: the same, moved along one axis, inside it, or around it.
@@ -109,13 +115,16 @@ pub fn related(old: [u32; 6], seed: &mut Seed) -> [u32; 6] {
 
 /// A question of about so many parts in a million of the whole volume, somewhere in it.
 pub fn question(parts: u32, seed: &mut Seed) -> [u32; 6] {
+    part_of(LIMITS.map(|limit| limit + 1), parts, seed)
+}
+
+fn part_of(lengths: [u32; 3], parts: u32, seed: &mut Seed) -> [u32; 6] {
     let side = (f64::from(parts) / 1e6).cbrt();
-    let mut range = |all: u32| {
-        let long = ((f64::from(all) * side) as u32).clamp(1, all);
-        let low = seed.below(all - long + 1);
+    let [e, n, d] = lengths.map(|limit| {
+        let long = ((f64::from(limit) * side) as u32).clamp(1, limit);
+        let low = seed.below(limit - long + 1);
         [low, low + long - 1]
-    };
-    let [e, n, d] = LIMITS.map(|limit| range(limit + 1));
+    });
     [e[0], e[1], n[0], n[1], d[0], d[1]]
 }
 

@@ -1,6 +1,6 @@
 //! Times the proved library beside the second program, in one process and in turn. Prints one table.
 use bench::twice::{five, record_sound};
-use bench::{book, question, Record, Seed, Spread, DENSE, SPARSE};
+use bench::{book, Record, Seed, Spread, DENSE, SPARSE};
 use gustbook::{Row, MOST_ROWS};
 use second::{GustBox, SmallRecord};
 use std::hint::black_box;
@@ -102,10 +102,20 @@ impl Book {
         self.row("clear", 1, &both, "");
     }
 
-    fn asking(&self, parts: u32, size: &str) {
+    /// Questions of several sizes; the last, over everything, opens only the root.
+    fn asking(&self, remark: &str) {
+        self.asking_for(1, "0.0001%", remark);
+        self.asking_for(100, "0.01%", remark);
+        self.asking_for(10_000, "1%", remark);
+        self.asking_for(100_000, "10%", remark);
+        self.asking_for(1_000_000, "all", remark);
+    }
+
+    fn asking_for(&self, parts: u32, size: &str, remark: &str) {
         let seed = &mut Seed::of(u64::from(parts));
         // Enough of them that no processor learns them by heart.
-        let places: Vec<[u32; 6]> = (0..4_000).map(|_| question(parts, seed)).collect();
+        let question = |_| self.spread.question(parts, seed);
+        let places: Vec<[u32; 6]> = (0..4_000).map(question).collect();
         let boxes: Vec<GustBox> = places.iter().map(|place| (*place).into()).collect();
         let (table, small) = (&self.table, &self.small);
         let opened: u32 = places
@@ -129,7 +139,7 @@ impl Book {
         let both = beside(|| timed(ours), || timed(theirs));
         let opened = f64::from(opened) / places.len() as f64;
         let scan = self.plain_scan(&places[..50]);
-        let remark = format!("{opened:.1} pages opened; a plain scan {scan}");
+        let remark = format!("{opened:.1} pages opened; a plain scan {scan}{remark}");
         self.row(
             &format!("ask, {size} of the volume"),
             places.len(),
@@ -141,7 +151,9 @@ impl Book {
     /// Sheets of 32 questions; beside the first ten of them the same questions asked one by one.
     fn sheets(&self) {
         let seed = &mut Seed::of(32);
-        let places: Vec<[u32; 6]> = (0..4_000).map(|_| question(10_000, seed)).collect();
+        let places: Vec<[u32; 6]> = (0..4_000)
+            .map(|_| self.spread.question(10_000, seed))
+            .collect();
         let mut rows: Vec<Row> = places.iter().map(|place| Row::new(*place)).collect();
         let mut others: Vec<second::Row> = places.iter().map(their_row).collect();
         let (table, small) = (&self.table, &self.small);
@@ -340,9 +352,7 @@ fn main() {
             }
             book.recording(true, "");
             book.recording(false, "");
-            book.asking(1, "0.0001%");
-            book.asking(10_000, "1%");
-            book.asking(500_000, "50%");
+            book.asking("");
             book.sheets();
             book.counting();
             book.saving_and_loading();
@@ -353,6 +363,7 @@ fn main() {
             let book = Book::new(pages, many, &DENSE);
             book.recording(true, "dense records");
             book.recording(false, "dense records");
+            book.asking("; dense records");
         }
     }
 }
