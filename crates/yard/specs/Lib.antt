@@ -1,0 +1,2 @@
+-- Request W9: a strip fed with the records of one square answers as the book does.
+pub mod Yard
