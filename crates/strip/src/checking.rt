@@ -17,13 +17,13 @@ fn may_follow(first: usize, before: usize, w: u32) -> bool
 pub fn is_strip(words: &[u32], count: u32) -> bool
     ensures { λ r. ⌜ r ≡ isStrip (record { words = now (words .entry); count = count }) ⌝ }
 {
-    if words.len() != Strip::MOST as usize {
-        return false;
-    }
-    if Strip::MOST < count {
-        return false;
-    }
     let n = count as usize;
+    if words.len() != Strip::MOST {
+        return false;
+    }
+    if Strip::MOST < n {
+        return false;
+    }
     let mut good = true;
     let mut first = 0;
     let mut before = Strip::GREATEST_VALUE + 1;

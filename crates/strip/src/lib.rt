@@ -21,7 +21,7 @@ pub struct Strip {
 }
 
 impl Strip {
-    pub const MOST: u32 = 1024;
+    pub const MOST: usize = 1024;
     // A word more for each end of a record's days, while what it makes is not joined.
     const ROOM: usize = 1026;
 
@@ -47,7 +47,7 @@ pub enum Asked {
 pub fn clear(words: &mut [u32], strip: Strip) -> Ended
     ensures { λ r. ⌜ leftOf (now (words .exit)) r ≡ cleared (lent (now (words .entry)) strip) ⌝ }
 {
-    if words.len() != Strip::MOST as usize {
+    if words.len() != Strip::MOST {
         return Ended { refusal: 4, strip };
     }
     words[0] = words::segment(Strip::DAYS - 1, 0);

@@ -71,7 +71,7 @@ fn settle(words: &mut [u32], made: &[u32], start: usize, place: usize, strip: St
     ensures { λ r. ⌜ leftOf (now (words .exit)) r ≡ fitted (take start (now (words .entry)) ++ drop place (now (made .entry))) (lent (now (words .entry)) strip) ⌝ }
 {
     let size = start + (Strip::ROOM - place);
-    if (Strip::MOST as usize) < size {
+    if Strip::MOST < size {
         return Ended { refusal: 10, strip };
     }
     copy(words, start, made, place, Strip::ROOM - place);

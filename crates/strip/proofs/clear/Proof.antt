@@ -4,9 +4,6 @@ use Rattle.strip.specs.CallLaws.{clear-refused, clear-made}
 use Rattle.strip.proofs.clear.Statement.{statement}
 use Rattle.strip.proofs.clear.Tie as tie
 
-cast-if1 : tie.Need-cast-if1
-cast-if1 c = search needs
-
 returns : tie.Need-returns
 returns c = search clear-refused
 
@@ -28,11 +25,4 @@ returns-2 c = search clear-made
 pub clear-spec : {M : Type 1} → statement M
 clear-spec =
     tie.close
-    (tie.spec
-    cast-if1
-    returns
-    sub-segment
-    segment-requires
-    slice-write-words
-    same-length
-    returns-2)
+    (tie.spec returns sub-segment segment-requires slice-write-words same-length returns-2)

@@ -11,9 +11,6 @@ Inv-loop words count n good₀ first₀ before₀ i₀ good first before i = Pas
 abbrev μ-loop : tie.MeasureT-loop
 μ-loop words count n good₀ first₀ before₀ i₀ good first before i = n - i
 
-cast-if1 : tie.Need-cast-if1 Inv-loop μ-loop
-cast-if1 c = search needs
-
 returns : tie.Need-returns Inv-loop μ-loop
 returns c = search wrong-room
 
@@ -62,7 +59,6 @@ is-strip-spec =
     (tie.spec
     Inv-loop
     μ-loop
-    cast-if1
     returns
     returns-2
     add-before

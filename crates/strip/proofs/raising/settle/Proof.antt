@@ -10,9 +10,6 @@ sub-size c = search needs
 add-size : tie.Need-add-size
 add-size c = search needs
 
-cast-if1 : tie.Need-cast-if1
-cast-if1 c = search needs
-
 returns : tie.Need-returns
 returns c = search settle-refused
 
@@ -34,13 +31,4 @@ returns-2 c = search settle-kept
 pub settle-spec : {M : Type 1} → statement M
 settle-spec =
     tie.close
-    (tie.spec
-    sub-size
-    add-size
-    cast-if1
-    returns
-    sub-copy
-    copy-requires
-    cast-t12
-    same-length
-    returns-2)
+    (tie.spec sub-size add-size returns sub-copy copy-requires cast-t12 same-length returns-2)
