@@ -16,6 +16,7 @@ mod page;
 mod record;
 mod sieve;
 mod split;
+mod strip;
 mod tally;
 
 pub use calendar::day_number;
@@ -24,6 +25,7 @@ pub use ground::{GustBox, LIMITS};
 pub use image::{image_length, PAGE_BYTES, TRAILER_BYTES};
 pub use line::{Counter, COUNTER_PAGES};
 pub use page::{ENTRY_WORDS, MOST_ENTRIES, MOST_PAGES, PAGE_WORDS};
+pub use strip::{legal_days, legal_report, Strip, MOST_SEGMENTS, STRIP_DAYS};
 pub use tally::{Event, Note, Tally};
 
 use ground::Ground;
@@ -69,6 +71,7 @@ pub enum Refusal {
     Size = 7,
     Trailer = 8,
     Line = 9,
+    Strip = 10,
 }
 
 impl Refusal {
