@@ -11,3 +11,4 @@ pub mod AskLaws
 pub mod CallLaws
 pub mod StripLaws
 pub mod Feeding
+pub mod Examples

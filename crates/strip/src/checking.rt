@@ -1,17 +1,15 @@
 // Whether a strip parts all days, as refusal 4 asks.
 use crate::Strip;
-use crate::words::last_of;
-use crate::words::value_of;
 ghost use mathlib.Core.Path.{_≡_};
 ghost use Rattle.strip.specs.StripCalls.{isStrip};
 ghost use Rattle.strip.specs.Walking.{mayFollow};
 
-// A segment after one that ended just before this day and had this value.
-fn may_follow(first: usize, before: usize, w: u32) -> bool
+// A segment after one that ended just before this day and had this value. In 32 bits, so that the machine tests several at once.
+fn may_follow(first: u32, before: u32, w: u32) -> bool
     ensures { λ r. ⌜ r ≡ mayFollow first before w ⌝ }
 {
-    let value = value_of(w);
-    (first <= last_of(w)) & ((value <= Strip::GREATEST_VALUE) & (value != before))
+    let value = w % 65536;
+    (first <= w / 65536) & ((value <= Strip::GREATEST_VALUE as u32) & (value != before))
 }
 
 pub fn is_strip(words: &[u32], count: u32) -> bool
@@ -26,14 +24,14 @@ pub fn is_strip(words: &[u32], count: u32) -> bool
     }
     let mut good = true;
     let mut first = 0;
-    let mut before = Strip::GREATEST_VALUE + 1;
+    let mut before = Strip::GREATEST_VALUE as u32 + 1;
     let mut i = 0;
     while i < n {
         let w = words[i];
         good = good & may_follow(first, before, w);
-        first = last_of(w) + 1;
-        before = value_of(w);
+        first = w / 65536 + 1;
+        before = w % 65536;
         i += 1;
     }
-    good & (first == Strip::DAYS)
+    good & (first == Strip::DAYS as u32)
 }

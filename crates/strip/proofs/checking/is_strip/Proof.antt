@@ -1,6 +1,7 @@
 -- `strip::checking::is_strip` meets its contract.
 use borrow.Author.Needs.{needs}
 use Prim.Native.Nat.{_-_}
+use native.Mathlib.Omega.{arith}
 use Rattle.strip.specs.WalkingLaws.{Passed, passed-none, passed-more, passed-all, too-many, wrong-room}
 use Rattle.strip.proofs.checking.is_strip.Statement.{statement}
 use Rattle.strip.proofs.checking.is_strip.Tie as tie
@@ -17,6 +18,9 @@ returns c = search wrong-room
 returns-2 : tie.Need-returns-2 Inv-loop μ-loop
 returns-2 c = search too-many
 
+cast-before : tie.Need-cast-before Inv-loop μ-loop
+cast-before c = search needs
+
 add-before : tie.Need-add-before Inv-loop μ-loop
 add-before c = search needs
 
@@ -32,14 +36,8 @@ shared-slice-read-w c = search needs
 may-follow-requires : tie.Need-may-follow-requires Inv-loop μ-loop
 may-follow-requires c κs = search needs
 
-last-of-requires : tie.Need-last-of-requires Inv-loop μ-loop
-last-of-requires c κs = search needs
-
 add-first : tie.Need-add-first Inv-loop μ-loop
-add-first c = search needs
-
-value-of-requires : tie.Need-value-of-requires Inv-loop μ-loop
-value-of-requires c κs = search needs
+add-first c = record { fits = omega (arith, c .before .shared-slice-known2 .given (c .before .before .before .loop .i)) }
 
 add-i : tie.Need-add-i Inv-loop μ-loop
 add-i c = search needs
@@ -49,6 +47,9 @@ loop-less c = search needs
 
 loop-again : tie.Need-loop-again Inv-loop μ-loop
 loop-again c = search passed-more
+
+cast-result : tie.Need-cast-result Inv-loop μ-loop
+cast-result c = search needs
 
 returns-3 : tie.Need-returns-3 Inv-loop μ-loop
 returns-3 c = search passed-all
@@ -61,15 +62,15 @@ is-strip-spec =
     μ-loop
     returns
     returns-2
+    cast-before
     add-before
     loop-holds
     mul-w
     shared-slice-read-w
     may-follow-requires
-    last-of-requires
     add-first
-    value-of-requires
     add-i
     loop-less
     loop-again
+    cast-result
     returns-3)
