@@ -40,6 +40,7 @@ enum gust_refusal {
     GUST_FULL = 6,    /* too few free pages */
     GUST_SIZE = 7,    /* an image, or a buffer to save into, of the wrong length */
     GUST_TRAILER = 8, /* an image with a wrong trailer */
+    GUST_STRIP = 10,  /* a strip would have more than 1,024 segments */
     GUST_SHEET = 11   /* a sheet of more than 32 rows */
 };
 
@@ -101,6 +102,33 @@ uint32_t gust_save(const uint16_t *table, size_t words, const struct gust_small 
 
 /* Refusals 7, 1, 8, 4, in this order. One by 4 leaves the empty book, table and small record. */
 uint32_t gust_load(const uint8_t *image, size_t bytes, uint16_t *table, size_t words, struct gust_small *small);
+
+/* A strip: one site by days. Its segments part all days from 0 to the last, each with a gust or nothing, neighbours
+ * unlike. It is lent as GUST_STRIP_WORDS words, of which the first `count` are in use: a word has the segment's last
+ * day in its high half and its value in its low half, 0 for nothing and gust + 1 for a gust. Words not in use may hold
+ * anything and are left alone. What is not such a parting, or has another number of words, is refused by 4. */
+#define GUST_STRIP_WORDS 1024
+
+/* A range of days, both ends inside. */
+struct gust_days {
+    uint32_t low, high;
+};
+
+/* any is 1 and gust the strongest gust of the days, or both are 0 for nothing. */
+struct gust_strip_asked {
+    uint32_t any, gust;
+};
+
+/* Makes the strip that is all nothing, whatever it held. Refusal 4, for another number of words. */
+uint32_t gust_strip_clear(uint32_t *segments, size_t words, uint32_t *count);
+
+/* Raises each of the days to the gust, if that is greater. Refusals 2, 3, 4, 10, in this order. */
+uint32_t gust_strip_record(uint32_t *segments, size_t words, uint32_t *count, const struct gust_days *days,
+                           uint32_t gust);
+
+/* The strongest gust of the days. Refusals 2, 4, in this order. */
+uint32_t gust_strip_ask(const uint32_t *segments, size_t words, uint32_t count, const struct gust_days *days,
+                        struct gust_strip_asked *answer);
 
 #ifdef __cplusplus
 }

@@ -1,8 +1,8 @@
 //! Times the proved library beside the second program, in one process and in turn. Prints one table.
 use bench::twice::{five, record_sound};
 use bench::{book, Record, Seed, Spread, DENSE, SPARSE};
-use gustbook::{Row, MOST_ROWS};
-use second::{GustBox, SmallRecord};
+use gustbook::{Days, Row, MOST_ROWS, STRIP_WORDS};
+use second::{GustBox, SmallRecord, LIMITS};
 use std::hint::black_box;
 use std::time::{Duration, Instant};
 
@@ -335,7 +335,132 @@ fn strongest(held: &[([u16; 6], u16)], [e0, e1, n0, n1, d0, d1]: [u16; 6]) -> u1
     best
 }
 
+/// A strip of so many segments, and beside it a plain array of a value for each day.
+struct Yard {
+    segments: [u32; STRIP_WORDS],
+    count: u32,
+    days: Vec<u16>,
+}
+
+impl Yard {
+    fn new(most: u32) -> Self {
+        let (mut segments, mut count) = ([0; STRIP_WORDS], 0);
+        gustbook::strip_clear(&mut segments, &mut count).expect("it fits");
+        let mut days = vec![0; LIMITS[2] as usize + 1];
+        let seed = &mut Seed::of(u64::from(most));
+        while count + 2 < most {
+            let (place, gust) = (some_days(20, seed), seed.below(1_201));
+            gustbook::strip_record(&mut segments, &mut count, &place, gust).expect("there is room");
+            fill(&mut days, place, gust as u16);
+        }
+        Yard {
+            segments,
+            count,
+            days,
+        }
+    }
+
+    fn row(&self, what: &str, per: usize, both: &Both) {
+        let each = |ns: f64| in_words(ns / per as f64);
+        let (ours, theirs) = (each(both.ours), each(both.theirs));
+        let segments = grouped(self.count as usize);
+        println!(
+            "| {what} | {segments} | {ours} | {theirs} | {:.2} |",
+            both.ratio
+        );
+    }
+
+    fn asking(&self, long: u32, size: &str) {
+        let seed = &mut Seed::of(u64::from(long));
+        let places: Vec<Days> = (0..500).map(|_| some_days(long, seed)).collect();
+        let ours = || {
+            for place in &places {
+                let _ = black_box(gustbook::strip_ask(
+                    black_box(&self.segments),
+                    self.count,
+                    place,
+                ));
+            }
+        };
+        let theirs = || {
+            for place in &places {
+                black_box(scan(black_box(&self.days), *place));
+            }
+        };
+        let both = beside(|| timed(ours), || timed(theirs));
+        self.row(&format!("strip: ask {size}"), places.len(), &both);
+    }
+
+    /// Several runs of records, each from the same strip.
+    fn recording(&self, long: u32, size: &str) {
+        let seed = &mut Seed::of(u64::from(long));
+        let many = 20;
+        let mut some = || (some_days(long, seed), seed.below(1_201));
+        let runs: Vec<Vec<(Days, u32)>> = (0..16)
+            .map(|_| (0..many).map(|_| some()).collect())
+            .collect();
+        let (mut ours, mut theirs) = (self.segments, self.days.clone());
+        let (mut next, mut other) = (runs.iter().cycle(), runs.iter().cycle());
+        let both = beside(
+            || {
+                ours = self.segments;
+                let (mut count, run) = (self.count, next.next().expect("they go round"));
+                timed(|| {
+                    for (place, gust) in run {
+                        let _ =
+                            black_box(gustbook::strip_record(&mut ours, &mut count, place, *gust));
+                    }
+                })
+            },
+            || {
+                theirs.copy_from_slice(&self.days);
+                let run = other.next().expect("they go round");
+                timed(|| {
+                    for (place, gust) in run {
+                        fill(black_box(&mut theirs), *place, *gust as u16);
+                    }
+                })
+            },
+        );
+        self.row(&format!("strip: record {size}"), many, &both);
+    }
+}
+
+/// So many days, somewhere.
+fn some_days(long: u32, seed: &mut Seed) -> Days {
+    let low = seed.below(LIMITS[2] + 2 - long);
+    [low, low + long - 1]
+}
+
+fn fill(days: &mut [u16], [low, high]: Days, gust: u16) {
+    for day in &mut days[low as usize..=high as usize] {
+        *day = (*day).max(gust + 1);
+    }
+}
+
+fn scan(days: &[u16], [low, high]: Days) -> u16 {
+    let days = &days[low as usize..=high as usize];
+    days.iter().fold(0, |best, day| best.max(*day))
+}
+
+/// A strip beside a plain array of a value for each day.
+fn strips() {
+    println!();
+    println!("| call | segments | proved | plain array | ratio |");
+    println!("|---|---|---|---|---|");
+    for most in [12, 100, 1_000] {
+        let yard = Yard::new(most);
+        yard.asking(30, "a month");
+        yard.asking(LIMITS[2] + 1, "all days");
+        yard.recording(1, "a day");
+        yard.recording(365, "a year");
+    }
+}
+
 fn main() {
+    if std::env::args().any(|word| word == "strips") {
+        return strips();
+    }
     println!("| call | pages | records | proved | second program | ratio | |");
     println!("|---|---|---|---|---|---|---|");
     for pages in [180, 4_096] {
@@ -366,4 +491,5 @@ fn main() {
             book.asking("; dense records");
         }
     }
+    strips();
 }

@@ -17,6 +17,7 @@ mod record;
 mod sheet;
 mod sieve;
 mod split;
+mod strip;
 mod tally;
 
 pub use calendar::day_number;
@@ -26,6 +27,7 @@ pub use image::{image_length, PAGE_BYTES, TRAILER_BYTES};
 pub use line::{Counter, COUNTER_PAGES};
 pub use page::{ENTRY_WORDS, MOST_ENTRIES, MOST_PAGES, PAGE_WORDS};
 pub use sheet::{ask_sheet, Row, MOST_ROWS};
+pub use strip::{legal_days, legal_report, Strip, MOST_SEGMENTS, STRIP_DAYS};
 pub use tally::{Event, Note, Tally};
 
 use ground::Ground;
@@ -71,6 +73,7 @@ pub enum Refusal {
     Size = 7,
     Trailer = 8,
     Line = 9,
+    Strip = 10,
     Sheet = 11,
 }
 

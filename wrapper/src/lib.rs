@@ -56,6 +56,21 @@ pub mod raw {
             words: usize,
             small: *mut [u32; 5],
         ) -> u32;
+        pub fn gust_strip_clear(segments: *mut u32, words: usize, count: *mut u32) -> u32;
+        pub fn gust_strip_record(
+            segments: *mut u32,
+            words: usize,
+            count: *mut u32,
+            days: *const [u32; 2],
+            gust: u32,
+        ) -> u32;
+        pub fn gust_strip_ask(
+            segments: *const u32,
+            words: usize,
+            count: u32,
+            days: *const [u32; 2],
+            answer: *mut [u32; 2],
+        ) -> u32;
     }
 }
 
@@ -64,7 +79,12 @@ pub type Small = [u32; 5];
 /// A box: east low, east high, north low, north high, day low, day high.
 pub type Place = [u32; 6];
 
-/// The number of a refusal, 1 to 8, or 11 for a sheet that is too long.
+/// A range of days: low, high.
+pub type Days = [u32; 2];
+/// The words of a strip.
+pub const STRIP_WORDS: usize = 1_024;
+
+/// The number of a refusal, 1 to 8, 10 for a strip that would be too long, or 11 for a sheet that is.
 #[derive(Clone, Copy, Debug, PartialEq, Eq)]
 pub struct Refusal(pub u32);
 
@@ -205,6 +225,31 @@ pub fn load(image: &[u8], table: &mut [u16], small: &mut Small) -> Result<(), Re
     accepted(unsafe { raw::gust_load(image.as_ptr(), image.len(), words, len, small) })
 }
 
+/// Makes the strip that is all nothing.
+pub fn strip_clear(segments: &mut [u32], count: &mut u32) -> Result<(), Refusal> {
+    accepted(unsafe { raw::gust_strip_clear(segments.as_mut_ptr(), segments.len(), count) })
+}
+
+/// Raises each of the days to the gust, if that is greater.
+pub fn strip_record(
+    segments: &mut [u32],
+    count: &mut u32,
+    days: &Days,
+    gust: u32,
+) -> Result<(), Refusal> {
+    let (words, len) = (segments.as_mut_ptr(), segments.len());
+    accepted(unsafe { raw::gust_strip_record(words, len, count, days, gust) })
+}
+
+/// The strongest gust of the days, `None` for nothing.
+pub fn strip_ask(segments: &[u32], count: u32, days: &Days) -> Result<Option<u32>, Refusal> {
+    let mut answer = [0; 2];
+    let (words, len) = (segments.as_ptr(), segments.len());
+    accepted(unsafe { raw::gust_strip_ask(words, len, count, days, &mut answer) })?;
+    let [any, gust] = answer;
+    Ok((any == 1).then_some(gust))
+}
+
 #[cfg(test)]
 mod tests {
     use super::*;
@@ -271,5 +316,28 @@ mod tests {
         assert!(copy == table && other == small);
         assert_eq!(load(&image[1..], &mut copy, &mut other), Err(Refusal(7)));
         assert_eq!(count(&table, &[65_536, small[1], 4, 1, 1]), Err(Refusal(4)));
+    }
+
+    /// A yard's days.
+    #[test]
+    fn a_yard_by_days() {
+        let (mut segments, mut count) = ([7; STRIP_WORDS], 9);
+        let year = [0, 365];
+        assert_eq!(strip_ask(&segments, count, &year), Err(Refusal(4)));
+        assert_eq!(strip_clear(&mut segments, &mut count), Ok(()));
+        let all = segments[0];
+        assert_eq!((count, all & 0xffff, segments[1]), (1, 0, 7));
+        assert_eq!(strip_ask(&segments, count, &year), Ok(None));
+        let mut add = |days, gust| strip_record(&mut segments, &mut count, &days, gust);
+        assert_eq!(add([5, 9], 20), Ok(()));
+        assert_eq!(add([8, 12], 0), Ok(()));
+        assert_eq!(add([3, 2], 1), Err(Refusal(2)));
+        assert_eq!(add([3, 65_536], 1), Err(Refusal(2)));
+        assert_eq!(add([3, 4], 65_536), Err(Refusal(3)));
+        let words = [4 << 16, 9 << 16 | 21, 12 << 16 | 1, all];
+        assert_eq!((&segments[..4], count), (&words[..], 4));
+        assert_eq!(strip_ask(&segments, count, &[10, 40]), Ok(Some(0)));
+        assert_eq!(strip_ask(&segments, count, &[0, 365]), Ok(Some(20)));
+        assert_eq!(strip_ask(&segments[1..], count, &year), Err(Refusal(4)));
     }
 }

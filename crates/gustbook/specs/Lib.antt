@@ -1,3 +1,4 @@
 pub mod Boundary
 pub mod BoundaryLaws
 pub mod Telling
+pub mod StripBoundary

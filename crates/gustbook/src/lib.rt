@@ -2,6 +2,7 @@
 // Each call returns 0 or the refusal's number. The numbers of a box and a gust are 32 bits wide, so that one out of range is refused and never cut short.
 mod answers;
 mod numbers;
+mod strips;
 
 use answers::tell_asked;
 use answers::tell_counted;
@@ -10,6 +11,9 @@ pub use numbers::box_of;
 pub use numbers::put_small;
 pub use numbers::small_of;
 use sheet::Row;
+pub use strips::gust_strip_ask;
+pub use strips::gust_strip_clear;
+pub use strips::gust_strip_record;
 use wide::narrow;
 ghost use mathlib.Core.Path.{_≡_};
 ghost use Rattle.asking.specs.Asking.{asked};

@@ -1,0 +1,2 @@
+-- A strip fed with the records of one square answers as the book does.
+pub mod Yard

@@ -1,0 +1,1 @@
+// No code: what joins a strip of one square to the book.
