@@ -49,7 +49,8 @@ small-after-requires c κs =
     let start = walked .before .before .before .before .before .before in
     let fine = sound-small start.args.t.now start.args.s start.pre.sound in
     let length = collapsed.collapse.ensures.same-length ∙ right.put-root-right.ensures.same-length ∙ walked.from-root.ensures.same-length in
-    (still-fits start.args.t.now collapsed.collapse.last.0 start.pre.fits length, omega (arith, fine.accepted, start.pre.unspent), fine.struck, fine.covered, omega (arith, walked.from-root.ensures.struck-is))
+    let fits = still-fits start.args.t.now collapsed.collapse.last.0 start.pre.fits length in
+    (fits, omega (arith, fine.accepted, start.pre.unspent), fine.struck, fine.covered, omega (arith, walked.from-root.ensures.struck-is))
 
 outcome-of-requires : tie.Need-outcome-of-requires
 outcome-of-requires c κs = tt

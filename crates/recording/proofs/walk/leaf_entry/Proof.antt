@@ -8,7 +8,9 @@ zero-entry-requires : tie.Need-zero-entry-requires
 zero-entry-requires c κs = tt
 
 returns : tie.Need-returns
-returns c = ap (λ (e : Entry). record { place = c .before .args .b; gust = c .before .args .v; weakest = e .weakest; child = e .child; strongest = e .strongest; union = e .union }) (c .zero-entry .ensures)
+returns c =
+    let start = c .before in
+    ap (λ (e : Entry). record { place = start.args.b; gust = start.args.v; weakest = e .weakest; child = e .child; strongest = e .strongest; union = e .union }) (c .zero-entry .ensures)
 
 pub leaf-entry-spec : {M : Type 1} → statement M
 leaf-entry-spec = tie.close (tie.spec zero-entry-requires returns)

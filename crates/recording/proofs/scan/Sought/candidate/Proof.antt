@@ -17,7 +17,9 @@ met-requires : tie.Need-met-requires
 met-requires c κs = tt
 
 returns-3 : tie.Need-returns-3
-returns-3 c = a-candidate (soughtOf (c .before .before .before .before .args .self)) _ _ _ _ (c .before .before .before .if1 .left) (c .before .before .if2 .left) (c .before .cut-by .ensures) (c .met .ensures)
+returns-3 c =
+    let uncovered = c .before .before .before in
+    a-candidate (soughtOf (uncovered .before .args .self)) _ _ _ _ (uncovered .if1 .left) (c .before .before .if2 .left) (c .before .cut-by .ensures) (c .met .ensures)
 
 pub candidate-spec : {M : Type 1} → statement M
 candidate-spec = tie.close (tie.spec returns returns-2 cut-by-requires met-requires returns-3)
