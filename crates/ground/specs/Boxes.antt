@@ -6,7 +6,7 @@ use Rattle.ground.specs.declared.boxes.Range.{Range}
 use Rattle.ground.specs.declared.boxes.Box.{Box}
 use Rattle.ground.specs.declared.gusts.Gust.{Gust}
 
--- East and north are 0 to 4,095, day 0 to 58,438, the number of 2039-12-31 (`limit-is-last`); a gust is 0 to 1,200 tenths.
+-- Rules 1.12, 1.13, 1.21: east and north are 0 to 4,095, day 0 to 58,438, the number of 2039-12-31 (`limit-is-last`); a gust is 0 to 1,200 tenths.
 abbrev pub eastLimit : ℕ
 eastLimit = 4_095
 
@@ -16,7 +16,6 @@ northLimit = 4_095
 abbrev pub dayLimit : ℕ
 dayLimit = 58_438
 
--- Rule 1.21.
 abbrev pub gustLimit : ℕ
 gustLimit = 1_200
 

@@ -26,12 +26,11 @@ eastOnly r = record { east = r; north = to 0 9; day = to 0 9 }
 abbrev gust : ℕ → Gust
 gust n = record { tenths = n }
 
--- P: 1880-03-01 is day 60; 1900-01-01 is 7,305; 2039-12-31 is 58,438, the day limit
+-- Rules 9.2, 9.3, 9.4, P: 1880-03-01 is day 60; 1900-01-01 is 7,305; 2039-12-31 is 58,438, the day limit
 pub first-of-march : dayOf (date 1_880 3 1) ≡ Day 60
 unfolding dayOf isDate lengthOfMonth dayNumber daysBeforeYear daysBeforeMonth lengthOfYear total
 first-of-march = refl
 
--- Rules 9.2, 9.3, 9.4: the theorem before this one, this one, and the one after it.
 pub new-century : dayOf (date 1_900 1 1) ≡ Day 7_305
 unfolding dayOf isDate lengthOfMonth dayNumber daysBeforeYear daysBeforeMonth lengthOfYear total
 new-century = refl
@@ -39,7 +38,7 @@ new-century = refl
 pub last-day : dayOf (date 2_039 12 31) ≡ Day 58_438
 last-day = limit-is-last
 
--- 1900 had no 29 February, so 1900-03-01 is day 7,364; 2000 had one
+-- Rule 9.a: 1900 had no 29 February, so 1900-03-01 is day 7,364; 2000 had one
 pub no-leap-day-in-1900 : dayOf (date 1_900 2 29) ≡ NoSuchDate
 unfolding dayOf isDate lengthOfMonth
 no-leap-day-in-1900 = refl
