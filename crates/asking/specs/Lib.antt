@@ -1,6 +1,5 @@
 -- Asking, to be read beside section 5 of RULES.md: the definition of the answer, and the laws that the storeys above cite.
 pub mod Asking
-pub mod Gathering
 pub mod Seen
 pub mod Turns
 pub mod Bounded

@@ -1,5 +1,5 @@
 -- How the code holds a search, and what its functions ask of their callers.
-use Prim.Native.Nat.{ℕ, _≤_}
+use Prim.Native.Nat.{ℕ, _≤_, _<_}
 use mathlib.Core.Bool.{true, cond}
 use mathlib.Core.List.{List, [], _∷_}
 use mathlib.Core.Path.{_≡_}
@@ -10,10 +10,9 @@ use Rattle.pages.specs.Facts.{InTable}
 use Rattle.pages.specs.Summary.{inUse}
 use Rattle.pages.specs.declared.Entry.{Entry}
 use Rattle.pages.specs.declared.Page.{Page}
-use Rattle.sieve.specs.Sieve.{questionOf, IsSieve}
+use Rattle.sieve.specs.Sieve.{IsSieve}
 use Rattle.wellformed.specs.WellFormed.{page}
 use Rattle.asking.specs.Asking.{Search, refused, found, raised, searchOne, inOrder, searchPage}
-use Rattle.asking.specs.Gathering.{Followed}
 use Rattle.asking.specs.declared.search.Found.{Found}
 
 -- A gust is a word, so the best is at most 65,536. A best above that says refused.
@@ -47,9 +46,9 @@ pub record OpenedPage (t : List ℕ) (p : ℕ) (w : List ℕ) (best : ℕ) : Typ
   pub sieve : IsSieve w
   pub low : best ≤ mostBest
 
--- Entry i of an opened page, which touches the question.
+-- Entry i of an opened page.
 pub record OpenedEntry (t : List ℕ) (p i : ℕ) (w : List ℕ) : Type 0 where
   pub fits : tableFits t ≡ true
   pub here : InTable t p
+  pub place : i < pageEntries
   pub sieve : IsSieve w
-  pub followed : Followed t p (questionOf w) i

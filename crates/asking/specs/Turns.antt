@@ -7,7 +7,7 @@ use native.Mathlib.Numerals.{add-one}
 use native.Mathlib.Omega.{arith}
 use borrow.Author.Tests.{leb-true, le-leb, lt-leb, leb-false, lt-ltb, le-ltb, ltb-true, ltb-false, eq-eqb, eqb-true, not-true, not-false}
 use lib.Dec.{leb, ltb, eqb}
-use lib.ListN.{length, getD, take, drop, drop-of-length-le}
+use lib.ListN.{length, getD, drop, drop-of-length-le}
 use lib.Seq.{drop-cons, getD-take, length-take-le}
 use Rattle.ground.specs.Boxes.{touches, covers, legal}
 use Rattle.ground.specs.Tests.{both, three, orders}
@@ -23,7 +23,6 @@ use Rattle.wellformed.specs.WellFormed.{page}
 use Rattle.asking.specs.Asking.{Search, refused, found, raised, passedOver, step, follow, searchEntry, searchRecord, searchOne, inOrder, mayOpen, searchOpened, searchPage, leastRoot, searchBook, answered, asked, says, refusedBy, toldBy, told}
 use Rattle.sieve.specs.Sieve.{sieveOf, questionOf, IsSieve}
 use Rattle.sieve.specs.SieveLaws.{Words, sieve-is, question-of}
-use Rattle.asking.specs.Gathering.{Gathered, entriesAt, gathered-enough, page-grows}
 use Rattle.asking.specs.Seen.{mostBest, seenAs, raisedBy, Raised, searchedIn, OpenedPage}
 use Rattle.asking.specs.declared.Asked.{Asked}
 use Rattle.asking.specs.declared.Asked.the-variants.{Refused, Nothing, Gust}
@@ -160,20 +159,29 @@ unfolding inOrder searchRecord raisedBy
 leaf-searched q [] best opened = refl
 leaf-searched q (e ∷ es) best opened = leaf-searched q es (raised q e best) opened
 
--- what becomes of an index entry that touches
-module _ (q : Box) (e : Entry) (best gust : ℕ) (p : touches q (e .place) ≡ true) (g : gust ≡ e .gust) where
-  pub step-pass : gust + 1 ≤ best → Pass ≡ step q e best
-  unfolding step
-  step-pass h = rw (p, ← g, le-leb (gust + 1) best h)
+-- what becomes of an index entry
+turned : (a b : Bool) → a || b ≡ b || a
+turned true true = refl
+turned true false = refl
+turned false true = refl
+turned false false = refl
 
-  module _ (strong covered : Bool) (ps : strong ≡ touches q (e .strongest)) (pc : covered ≡ covers q (e .place)) (h : best < gust + 1) where
+module _ (q : Box) (e : Entry) (best gust : ℕ) (touch : Bool) (p : touch ≡ touches q (e .place)) (g : gust ≡ e .gust) where
+  passes : (b : Bool) → leb (gust + 1) best || not touch ≡ b → passedOver q e best ≡ b
+  passes b h = rw (← p, ← g) (turned (not touch) (leb (gust + 1) best) ∙ h)
+
+  pub step-pass : leb (gust + 1) best || not touch ≡ true → Pass ≡ step q e best
+  unfolding step
+  step-pass h = rw (passes true h)
+
+  module _ (strong covered : Bool) (ps : strong ≡ touches q (e .strongest)) (pc : covered ≡ covers q (e .place)) (h : leb (gust + 1) best || not touch ≡ false) where
     pub step-raise : strong || covered ≡ true → Raise gust ≡ step q e best
     unfolding step
-    step-raise k = rw (p, ← g, lt-leb (gust + 1) best h, ← ps, ← pc, k)
+    step-raise k = rw (passes false h, ← ps, ← pc, k, g)
 
     pub step-open : (child : ℕ) → strong || covered ≡ false → child ≡ e .child → Open child ≡ step q e best
     unfolding step
-    step-open child k c = rw (p, ← g, lt-leb (gust + 1) best h, ← ps, ← pc, k, c)
+    step-open child k c = rw (passes false h, ← ps, ← pc, k, c)
 
 -- the search of an entry: its three ways. A word is below 65,536, so what is refused is passed over.
 module _ (lower : ℕ → ℕ → ℕ → Search) (q : Box) (e : Entry) (best opened : ℕ) where
@@ -258,16 +266,6 @@ index-one lower q (suc (suc m)) h n = let e : suc (suc m) - 1 ≡ suc m = omega 
 pub index-start : (ps : List Page) (q : Box) (level p best opened : ℕ) → 1 ≤ level → (level ≡ 1 → ⊥) → best ≤ mostBest
     → inOrder (searchEntry (searchPage ps q (level - 1) 1) q) (inUse (page ps p)) (seenAs best opened) ≡ searchedIn ps q (level - 1) p best opened
 index-start ps q level p best opened h n l = rw (seen-found best opened l, index-one (searchPage ps q (level - 1) 1) q level h n)
-
--- an index page, of which only the gathered entries are followed
-pub follow-start : (t : List ℕ) (q : Box) (level p best opened : ℕ) (places : List ℕ) (n : ℕ) → 1 ≤ level → (level ≡ 1 → ⊥) → best ≤ mostBest → Gathered t p q best places n
-    → inOrder (searchEntry (searchPage (pagesOf t) q (level - 1) 1) q) (entriesAt t p (take n places)) (seenAs best opened) ≡ searchedIn (pagesOf t) q (level - 1) p best opened
-follow-start t q level p best opened places n h m l g =
-    let lower = searchPage (pagesOf t) q (level - 1) 1 in
-    let first = seen-found best opened l in
-    ap (λ (es : List Entry). inOrder (searchEntry lower q) es (seenAs best opened)) (g .same)
-    ∙ gathered-enough lower (λ c b o. page-grows (pagesOf t) q (level - 1) 1 c b o) q best (inUse (page (pagesOf t) p)) (seenAs best opened) (rw first (omega arith))
-    ∙ index-start (pagesOf t) q level p best opened h m l
 
 -- what opening a page tells
 pub opened-record : (t w : List ℕ) (level least p opened best : ℕ) → tableFits t ≡ true → IsSieve w → best ≤ mostBest → mayOpen (pagesOf t) level least p opened ≡ true → OpenedPage t p w best

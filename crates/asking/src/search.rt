@@ -7,7 +7,6 @@ use pages::Small;
 ghost use mathlib.Core.Bool.{true};
 ghost use mathlib.Core.Path.{_≡_};
 ghost use Prim.Native.Nat.{_-_, _≤_, _<_};
-ghost use lib.ListN.{length, getD};
 ghost use Rattle.pages.specs.Layout.{pageEntries, mostPages, tableFits, entryIn, pagesOf};
 ghost use Rattle.pages.specs.Facts.{InTable};
 ghost use Rattle.pages.specs.Summary.{inUse};
@@ -15,7 +14,6 @@ ghost use Rattle.sieve.specs.Sieve.{questionOf, IsSieve};
 ghost use Rattle.wellformed.specs.WellFormed.{page};
 ghost use Rattle.asking.specs.Asking.{raised, step, searchEntry, mayOpen, searchPage, leastRoot, searchBook, answered};
 ghost use Rattle.asking.specs.Bounded.{AtMost};
-ghost use Rattle.asking.specs.Gathering.{mayMatter, Followed, Gathered};
 ghost use Rattle.asking.specs.Seen.{mostBest, seen, Raised, raisedBy, searchedIn, OpenedPage, OpenedEntry};
 
 // What a search has come to: the best gust as a number (0 is Nothing, a gust v is v + 1) and the pages opened.
@@ -113,58 +111,13 @@ fn search_leaf(t: &[u16], p: usize, q: &[u16; sieve::WORDS], best: u64) -> u64
     most
 }
 
-// Whether an index entry may matter to the question.
-fn may_matter(t: &[u16], p: usize, i: usize, q: &[u16; sieve::WORDS], best: u64) -> bool
-    requires { ⌜ InTable (now t) p × (i < pageEntries) × IsSieve (now q) ⌝ }
-    ensures { λ r. ⌜ r ≡ mayMatter (questionOf (now (q .entry))) best (entryIn (now (t .entry)) p i) ⌝ }
-{
-    sieve::place_touches(t, p, i, q) & (best < pages::entry_gust(t, p, i) as u64 + 1)
-}
-
-// The places of the entries that may matter, in order, and how many they are.
-// A pass without branches: a place that does not count is written over.
-fn gather(
-    t: &[u16],
-    p: usize,
-    q: &[u16; sieve::WORDS],
-    best: u64,
-    places: &mut [u8; Page::ENTRIES],
-) -> usize
-    requires { ⌜ OpenedPage (now t) p (now q) best × (length (now places) ≡ pageEntries) ⌝ }
-    ensures { λ r. ⌜ Gathered (now (t .entry)) p (questionOf (now (q .entry))) best (now (places .exit)) r ⌝ }
-{
-    let entries = pages::count(t, p) as usize;
-    let mut n: usize = 0;
-    let mut i: usize = 0;
-    while i < entries {
-        places[n] = i as u8;
-        n += may_matter(t, p, i, q, best) as usize;
-        i += 1;
-    }
-    n
-}
-
-// The place that is followed after k others.
-fn place_after(places: &[u8; Page::ENTRIES], k: usize) -> usize
-    requires { ⌜ k < pageEntries ⌝ }
-    ensures { λ r. ⌜ r ≡ getD (now (places .entry)) k 0 ⌝ }
-{
-    wide(places[k])
-}
-
-fn wide(place: u8) -> usize
-    ensures { λ r. ⌜ r ≡ place ⌝ }
-{
-    place as usize
-}
-
-// What becomes of an index entry that touches, as far as its own words tell.
+// What becomes of an index entry, as far as its own words tell.
 fn decide(t: &[u16], p: usize, i: usize, q: &[u16; sieve::WORDS], best: u64) -> Step
-    requires { ⌜ InTable (now t) p × IsSieve (now q) × Followed (now t) p (questionOf (now q)) i ⌝ }
+    requires { ⌜ InTable (now t) p × (i < pageEntries) × IsSieve (now q) ⌝ }
     ensures { λ r. ⌜ r ≡ step (questionOf (now (q .entry))) (entryIn (now (t .entry)) p i) best ⌝ }
 {
     let gust = pages::entry_gust(t, p, i);
-    if gust as u64 + 1 <= best {
+    if (gust as u64 + 1 <= best) | !sieve::place_touches(t, p, i, q) {
         return Step::Pass;
     }
     if sieve::strongest_touches(t, p, i, q) | sieve::place_covered(t, p, i, q) {
@@ -173,8 +126,7 @@ fn decide(t: &[u16], p: usize, i: usize, q: &[u16; sieve::WORDS], best: u64) -> 
     Step::Open(pages::entry_child(t, p, i))
 }
 
-// The search of page p, which has been opened. Of an index page only the entries that may matter are followed, in order.
-// The others would be passed over in their turn, since the best only grows.
+// The search of page p, which has been opened: its entries in order.
 fn search_page(
     t: &[u16],
     p: usize,
@@ -192,19 +144,17 @@ fn search_page(
             opened,
         };
     }
-    let mut places = [0u8; Page::ENTRIES];
-    let many = gather(t, p, q, best, &mut places);
+    let entries = pages::count(t, p) as usize;
     let mut found = Found { best, opened };
-    let mut k = 0;
-    while k < many {
-        let i = place_after(&places, k);
+    let mut i = 0;
+    while i < entries {
         found = search_entry(t, p, i, level, q, found);
-        k += 1;
+        i += 1;
     }
     found
 }
 
-// The search of entry i of an index page, which touches.
+// The search of entry i of an index page.
 fn search_entry(
     t: &[u16],
     p: usize,

@@ -26,11 +26,7 @@ answer-requires : tie.Need-answer-requires
 answer-requires c κs = book-most _ _ _ _ (sym (c .before .before .before .before .table-fits .ensures) ∙ not-false _ (c .before .before .before .if1 .left)) (c .search-book .ensures)
 
 returns-3 : tie.Need-returns-3
-returns-3 c =
-    let by-box = c .before .before .before in
-    let by-table = by-box .before .before in
-    let found = asked-found _ _ _ _ _ _ _ (by-table .table-fits .ensures) (by-box .before .if1 .left) (by-box .legal .ensures) in
-    told-so _ _ _ _ (found (c .before .before .if2 .left) (c .before .search-book .ensures) (c .answer .ensures))
+returns-3 c = told-so _ _ _ _ (asked-found _ _ _ _ _ _ _ (c .before .before .before .before .before .table-fits .ensures) (c .before .before .before .before .if1 .left) (c .before .before .before .legal .ensures) (c .before .before .if2 .left) (c .before .search-book .ensures) (c .answer .ensures))
 
 pub ask-spec : {M : Type 1} → statement M
 ask-spec =

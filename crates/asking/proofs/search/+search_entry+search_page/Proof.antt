@@ -1,15 +1,16 @@
 -- `asking::search::+search_entry+search_page` meets its contract.
 use Rattle.asking.specs.Turns.{opened-record, opened-few, opened-some, gust-small, entry-pass, entry-raise, open-low, entry-opened, entry-refused}
-use Rattle.asking.specs.Turns.{order-turn, order-end, follow-start, leaf-page}
-use Rattle.asking.specs.Gathering.{Gathered, entriesAt, follow-next, follow-none}
+use Rattle.asking.specs.Turns.{in-use-next, in-use-none, order-turn, order-end, index-start, leaf-page}
 use Rattle.asking.specs.Seen.{OpenedPage, seen, searchedIn}
 use Rattle.asking.specs.Asking.{searchEntry, searchPage, inOrder}
+use Rattle.wellformed.specs.WellFormed.{page}
 use Rattle.sieve.specs.SieveLaws.{Words}
 use Rattle.sieve.specs.Sieve.{questionOf}
-use Rattle.pages.specs.Layout.{pagesOf}
+use Rattle.pages.specs.Summary.{inUse}
+use Rattle.pages.specs.Layout.{pagesOf, countAt}
 use borrow.Author.Needs.{needs}
-use lib.ListN.{take, drop}
-use mathlib.Core.Path.{_≡_, refl, sym, _∙_}
+use lib.ListN.{drop}
+use mathlib.Core.Path.{_≡_, sym, _∙_}
 use Prim.Native.Nat.{_≤_, _-_, _+_}
 use native.Mathlib.Omega.{arith}
 use Prim.Native.Nat.{ℕ, _<_}
@@ -23,10 +24,9 @@ use Rattle.asking.proofs.search.search_page.Kinds as search-page-kinds
 use Rattle.asking.proofs.search.+search_entry+search_page.Lts-search_page as search-page-lts
 use Rattle.asking.proofs.search.Found.refused.Reads as refused-reads
 use Rattle.asking.proofs.search.decide.Reads as decide-reads
-use Rattle.asking.proofs.search.gather.Reads as gather-reads
 use Rattle.asking.proofs.search.may_open.Reads as may-open-reads
-use Rattle.asking.proofs.search.place_after.Reads as place-after-reads
 use Rattle.asking.proofs.search.search_leaf.Reads as search-leaf-reads
+use Rattle.pages.proofs.count.Reads as count-reads
 use Rattle.asking.proofs.search.+search_entry+search_page.{statement}
 use Rattle.asking.proofs.search.+search_entry+search_page.Tie.{close}
 
@@ -62,10 +62,10 @@ entry-calls t =
 
 abbrev page-calls : ℕ → search-page-lts.Claims
 page-calls t =
-    (search-leaf-reads.Asked, search-leaf-reads.Learnt, gather-reads.Asked, gather-reads.Learnt, place-after-reads.Asked, place-after-reads.Learnt, search-entry-below t, search-entry.Post)
+    (search-leaf-reads.Asked, search-leaf-reads.Learnt, count-reads.Asked, count-reads.Learnt, search-entry-below t, search-entry.Post)
 
 search-entry-decide-requires : (t : ℕ) → search-entry-lts.Need-decide-requires (entry-calls t) (search-entry-at t) search-entry.Post
-search-entry-decide-requires t c κs = let h = c .before .pre .1 .0 in (h .here, h .sieve, h .followed)
+search-entry-decide-requires t c κs = let h = c .before .pre .1 .0 in (h .here, h .place, h .sieve)
 
 search-entry-enum-told : (t : ℕ) → search-entry-lts.Need-enum-told (entry-calls t) (search-entry-at t) search-entry.Post
 search-entry-enum-told t c = search needs
@@ -105,13 +105,11 @@ search-entry-add-search-page t c =
 
 search-entry-search-page-requires : (t : ℕ) → search-entry-lts.Need-search-page-requires (entry-calls t) (search-entry-at t) search-entry.Post
 search-entry-search-page-requires t c κs =
-    let words = c .before .before .before .before .before .before in
-    let start = words .before in
-    let h = start .pre .1 .0 in
+    let h = c .before .before .before .before .before .before .before .pre .1 .0 in
     let m = sym (c .before .may-open .ensures) ∙ c .if1 .taken in
-    let w : Words (start .args .t .now) = record { small = λ k. omega (arith, words .shared-slice-known .given k) } in
+    let w : Words (c .before .before .before .before .before .before .before .args .t .now) = record { small = λ k. omega (arith, c .before .before .before .before .before .before .shared-slice-known .given k) } in
     let s = sym (c .before .before .before .child .given .1) ∙ c .before .before .before .before .before .decide .ensures in (
-      omega (arith, start .pre .0, start .pre .1 .1),
+      omega (arith, c .before .before .before .before .before .before .before .pre .0, c .before .before .before .before .before .before .before .pre .1 .1),
       (opened-record _ _ _ _ _ _ _ (h .fits) (h .sieve) (open-low _ _ _ _ (gust-small _ _ _ w) s) m, opened-some _ _ _ _ _ m),
     )
 
@@ -123,39 +121,30 @@ search-entry-returns t c = entry-pass _ _ _ _ _ (sym (c .enum-told .given .1) �
 
 search-entry-returns-2 : (t : ℕ) → search-entry-lts.Need-returns-2 (entry-calls t) (search-entry-at t) search-entry.Post
 search-entry-returns-2 t c =
-    let words = c .before .before .before .before in
-    let w : Words (words .before .args .t .now) = record { small = λ k. omega (arith, words .shared-slice-known .given k) } in
+    let w : Words (c .before .before .before .before .before .args .t .now) = record { small = λ k. omega (arith, c .before .before .before .before .shared-slice-known .given k) } in
     entry-raise _ _ _ _ _ (gust-small _ _ _ w) _ (omega (arith, c .known-told .given)) (sym (c .before .gust .given .1) ∙ c .before .before .before .decide .ensures)
 
 search-entry-returns-3 : (t : ℕ) → search-entry-lts.Need-returns-3 (entry-calls t) (search-entry-at t) search-entry.Post
 search-entry-returns-3 t c =
     let m = sym (c .before .before .may-open .ensures) ∙ c .before .if1 .taken in
-    let opening = c .before .before .before .before in
-    let decided = opening .before .before in
-    let words = decided .before in
-    let w : Words (words .before .args .t .now) = record { small = λ k. omega (arith, words .shared-slice-known .given k) } in
-    let s = sym (opening .child .given .1) ∙ decided .decide .ensures in
-    entry-opened _ _ _ _ _ _ _ (gust-small _ _ _ w) s _ m (c .search-page .ensures)
+    let w : Words (c .before .before .before .before .before .before .before .before .args .t .now) = record { small = λ k. omega (arith, c .before .before .before .before .before .before .before .shared-slice-known .given k) } in
+    entry-opened _ _ _ _ _ _ _ (gust-small _ _ _ w) (sym (c .before .before .before .before .child .given .1) ∙ c .before .before .before .before .before .before .decide .ensures) _ m (c .search-page .ensures)
 
 search-entry-returns-4 : (t : ℕ) → search-entry-lts.Need-returns-4 (entry-calls t) (search-entry-at t) search-entry.Post
 search-entry-returns-4 t c =
     let m = sym (c .before .before .may-open .ensures) ∙ c .before .if1 .left in
-    let opening = c .before .before .before .before in
-    let decided = opening .before .before in
-    let words = decided .before in
-    let w : Words (words .before .args .t .now) = record { small = λ k. omega (arith, words .shared-slice-known .given k) } in
-    let s = sym (opening .child .given .1) ∙ decided .decide .ensures in
-    entry-refused _ _ _ _ _ _ _ (gust-small _ _ _ w) s _ _ m (c .refused .ensures)
+    let w : Words (c .before .before .before .before .before .before .before .before .args .t .now) = record { small = λ k. omega (arith, c .before .before .before .before .before .before .before .shared-slice-known .given k) } in
+    entry-refused _ _ _ _ _ _ _ (gust-small _ _ _ w) (sym (c .before .before .before .before .child .given .1) ∙ c .before .before .before .before .before .before .decide .ensures) _ _ m (c .refused .ensures)
 
 abbrev search-page-Inv-loop : search-page-lts.InvT-loop
-search-page-Inv-loop t p level q best opened places many found₀ k₀ found k =
+search-page-Inv-loop t p level q best opened entries found₀ i₀ found i =
     OpenedPage t p q best
     × (2 ≤ level)
-    × Gathered t p (questionOf q) best places many
-    × (inOrder (searchEntry (searchPage (pagesOf t) (questionOf q) (level - 1) 1) (questionOf q)) (entriesAt t p (drop k (take many places))) (seen found) ≡ searchedIn (pagesOf t) (questionOf q) (level - 1) p best opened)
+    × (entries ≡ countAt t p)
+    × (inOrder (searchEntry (searchPage (pagesOf t) (questionOf q) (level - 1) 1) (questionOf q)) (drop i (inUse (page (pagesOf t) p))) (seen found) ≡ searchedIn (pagesOf t) (questionOf q) (level - 1) p best opened)
 
 abbrev search-page-μ-loop : search-page-lts.MeasureT-loop
-search-page-μ-loop t p level q best opened places many found₀ k₀ found k = many - k
+search-page-μ-loop t p level q best opened entries found₀ i₀ found i = entries - i
 
 search-page-search-leaf-requires : (t : ℕ) → search-page-lts.Need-search-leaf-requires (page-calls t) (search-page-at t) search-page.Post search-page-Inv-loop search-page-μ-loop
 search-page-search-leaf-requires t c κs = c .before .before .pre .1 .0
@@ -163,45 +152,42 @@ search-page-search-leaf-requires t c κs = c .before .before .pre .1 .0
 search-page-returns : (t : ℕ) → search-page-lts.Need-returns (page-calls t) (search-page-at t) search-page.Post search-page-Inv-loop search-page-μ-loop
 search-page-returns t c = leaf-page _ _ _ _ _ _ _ (c .before .if1 .taken) (c .search-leaf .ensures)
 
-search-page-gather-requires : (t : ℕ) → search-page-lts.Need-gather-requires (page-calls t) (search-page-at t) search-page.Post search-page-Inv-loop search-page-μ-loop
-search-page-gather-requires t c κs = (c .before .before .before .pre .1 .0, refl)
+search-page-count-requires : (t : ℕ) → search-page-lts.Need-count-requires (page-calls t) (search-page-at t) search-page.Post search-page-Inv-loop search-page-μ-loop
+search-page-count-requires t c κs = c .before .before .pre .1 .0 .here
+
+search-page-cast-entries : (t : ℕ) → search-page-lts.Need-cast-entries (page-calls t) (search-page-at t) search-page.Post search-page-Inv-loop search-page-μ-loop
+search-page-cast-entries t c = search needs
 
 search-page-loop-holds : (t : ℕ) → search-page-lts.Need-loop-holds (page-calls t) (search-page-at t) search-page.Post search-page-Inv-loop search-page-μ-loop
 search-page-loop-holds t c =
-    let h = c .before .before .before .before .pre .1 in
+    let h = c .before .before .before .pre .1 in
     let o = h .1 in
-    let n = c .before .before .if1 .left in
-    let g = c .gather .ensures in
-    (h .0, omega arith, g, follow-start _ _ _ _ _ _ _ _ o n (h .0 .low) g)
-
-search-page-place-after-requires : (t : ℕ) → search-page-lts.Need-place-after-requires (page-calls t) (search-page-at t) search-page.Post search-page-Inv-loop search-page-μ-loop
-search-page-place-after-requires t c κs = let v = c .before .before .loop .inv in omega (arith, v .2 .few, c .before .loop-test .taken)
+    let n = c .before .if1 .left in
+    (h .0, omega arith, c .count .ensures, index-start _ _ _ _ _ _ o n (h .0 .low))
 
 search-page-search-entry-requires : (t : ℕ) → search-page-lts.Need-search-entry-requires (page-calls t) (search-page-at t) search-page.Post search-page-Inv-loop search-page-μ-loop
 search-page-search-entry-requires t c κs =
-    let turn = c .before .before .before in
-    let v = turn .loop .inv in
+    let v = c .before .loop .inv in
     let h = v .0 in
-    let f = v .2 .each (turn .loop .k) (c .before .before .loop-test .taken) in
-    let falls = turn .before .before .before .before .before .pre .0 in
-    (omega (arith, falls), (record { fits = h .fits; here = h .here; sieve = h .sieve; followed = rw (c .place-after .ensures) f }, v .1))
+    (omega (arith, c .before .before .before .before .before .pre .0), (record { fits = h .fits; here = h .here; place = omega (arith, h .few, v .2, c .loop-test .taken); sieve = h .sieve }, v .1))
 
-search-page-add-k : (t : ℕ) → search-page-lts.Need-add-k (page-calls t) (search-page-at t) search-page.Post search-page-Inv-loop search-page-μ-loop
-search-page-add-k t c = search needs
+search-page-add-i : (t : ℕ) → search-page-lts.Need-add-i (page-calls t) (search-page-at t) search-page.Post search-page-Inv-loop search-page-μ-loop
+search-page-add-i t c = search needs
 
 search-page-loop-less : (t : ℕ) → search-page-lts.Need-loop-less (page-calls t) (search-page-at t) search-page.Post search-page-Inv-loop search-page-μ-loop
 search-page-loop-less t c = search needs
 
 search-page-loop-again : (t : ℕ) → search-page-lts.Need-loop-again (page-calls t) (search-page-at t) search-page.Post search-page-Inv-loop search-page-μ-loop
 search-page-loop-again t c =
-    let v = c .before .before .before .before .loop .inv in
-    let next = follow-next _ _ _ _ _ _ (v .2) (c .before .before .before .before .loop .k) _ (c .before .place-after .ensures) (c .before .before .before .loop-test .taken) in
+    let v = c .before .before .loop .inv in
+    let next = in-use-next _ _ (v .0 .here) (c .before .before .loop .i) (omega (arith, v .2, c .before .loop-test .taken)) (v .0 .few) in
     (v .0, v .1, v .2, order-turn _ _ _ _ _ _ _ next (v .3) (c .search-entry .ensures))
 
 search-page-returns-2 : (t : ℕ) → search-page-lts.Need-returns-2 (page-calls t) (search-page-at t) search-page.Post search-page-Inv-loop search-page-μ-loop
 search-page-returns-2 t c =
     let v = c .before .loop .inv in
-    order-end _ _ _ _ (follow-none _ _ _ _ _ _ (v .2) (c .before .loop .k) (c .loop-test .left)) (v .3)
+    let none = in-use-none _ _ (v .0 .here) (c .before .loop .i) (omega (arith, v .2, c .loop-test .left)) (v .0 .few) in
+    order-end _ _ _ _ none (v .3)
 
 pub +search-entry+search-page-spec : {M : Type 1} → statement M
 +search-entry+search-page-spec = close μ-search-entry μ-search-page (λ t. search-entry-lts.spec (entry-calls t)
@@ -232,11 +218,11 @@ pub +search-entry+search-page-spec : {M : Type 1} → statement M
     search-page-μ-loop
     (search-page-search-leaf-requires t)
     (search-page-returns t)
-    (search-page-gather-requires t)
+    (search-page-count-requires t)
+    (search-page-cast-entries t)
     (search-page-loop-holds t)
-    (search-page-place-after-requires t)
     (search-page-search-entry-requires t)
-    (search-page-add-k t)
+    (search-page-add-i t)
     (search-page-loop-less t)
     (search-page-loop-again t)
     (search-page-returns-2 t)

@@ -13,8 +13,11 @@ cast-if1 c = search needs
 add-if1 : tie.Need-add-if1
 add-if1 c = search needs
 
+place-touches-requires : tie.Need-place-touches-requires
+place-touches-requires c κs = search needs
+
 returns : tie.Need-returns
-returns c = search (step-pass, needs)
+returns c = step-pass _ _ _ _ _ (c .before .place-touches .ensures) (c .before .before .entry-gust .ensures) (c .if1 .taken)
 
 strongest-touches-requires : tie.Need-strongest-touches-requires
 strongest-touches-requires c κs = search needs
@@ -23,13 +26,13 @@ place-covered-requires : tie.Need-place-covered-requires
 place-covered-requires c κs = search needs
 
 returns-2 : tie.Need-returns-2
-returns-2 c = search (step-raise, needs)
+returns-2 c = step-raise _ _ _ _ _ (c .before .before .before .before .place-touches .ensures) (c .before .before .before .before .before .entry-gust .ensures) _ _ (c .before .before .strongest-touches .ensures) (c .before .place-covered .ensures) (c .before .before .before .if1 .left) (c .if2 .taken)
 
 entry-child-requires : tie.Need-entry-child-requires
 entry-child-requires c κs = search needs
 
 returns-3 : tie.Need-returns-3
-returns-3 c = search (step-open, needs)
+returns-3 c = step-open _ _ _ _ _ (c .before .before .before .before .before .place-touches .ensures) (c .before .before .before .before .before .before .entry-gust .ensures) _ _ (c .before .before .before .strongest-touches .ensures) (c .before .before .place-covered .ensures) (c .before .before .before .before .if1 .left) _ (c .before .if2 .left) (c .entry-child .ensures)
 
 pub decide-spec : {M : Type 1} → statement M
 decide-spec =
@@ -38,6 +41,7 @@ decide-spec =
     entry-gust-requires
     cast-if1
     add-if1
+    place-touches-requires
     returns
     strongest-touches-requires
     place-covered-requires

@@ -18,28 +18,20 @@ cast-search-page c = search needs
 
 search-page-requires : tie.Need-search-page-requires
 search-page-requires c κs =
-    let by-root = c .before .before .before in
-    let by-sieve = by-root .before .before in
-    let start = by-sieve .before .before in
-    let m = root-may _ (start .args .s) _ _ _ (by-root .before .least-root .ensures) (by-root .may-open .ensures) (c .before .before .if1 .taken) in
-    (root-page _ _ (start .args .s) _ (start .pre) (by-sieve .sieve-of .ensures) m, opened-some _ _ _ _ _ m)
+    let m = root-may _ (c .before .before .before .before .before .before .before .args .s) _ _ _ (c .before .before .before .before .least-root .ensures) (c .before .before .before .may-open .ensures) (c .before .before .if1 .taken) in
+    (root-page _ _ (c .before .before .before .before .before .before .before .args .s) _ (c .before .before .before .before .before .before .before .pre) (c .before .before .before .before .before .sieve-of .ensures) m, opened-some _ _ _ _ _ m)
 
 refused-requires : tie.Need-refused-requires
 refused-requires c κs = search needs
 
 returns : tie.Need-returns
 returns c =
-    let by-root = c .before .before .before .before in
-    let by-sieve = by-root .before .before in
-    let start = by-sieve .before .before in
-    let m = root-may _ (start .args .s) _ _ _ (by-root .before .least-root .ensures) (by-root .may-open .ensures) (c .before .before .before .if1 .taken) in
-    root-opened _ _ _ _ _ (by-sieve .sieve-of .ensures) m (c .search-page .ensures)
+    let m = root-may _ (c .before .before .before .before .before .before .before .before .args .s) _ _ _ (c .before .before .before .before .before .least-root .ensures) (c .before .before .before .before .may-open .ensures) (c .before .before .before .if1 .taken) in
+    root-opened _ _ _ _ _ (c .before .before .before .before .before .before .sieve-of .ensures) m (c .search-page .ensures)
 
 returns-2 : tie.Need-returns-2
 returns-2 c =
-    let by-root = c .before .before in
-    let start = by-root .before .before .before .before in
-    let m = root-may _ (start .args .s) _ _ _ (by-root .before .least-root .ensures) (by-root .may-open .ensures) (c .before .if1 .left) in
+    let m = root-may _ (c .before .before .before .before .before .before .args .s) _ _ _ (c .before .before .before .least-root .ensures) (c .before .before .may-open .ensures) (c .before .if1 .left) in
     root-refused _ _ _ _ _ m (c .refused .ensures)
 
 pub search-book-spec : {M : Type 1} → statement M
