@@ -1,4 +1,4 @@
--- Section 6 of source 001, figure 15, in whole days and gusts: three reports, the segments that they leave, and the question that crosses two of them.
+-- Section 6 of Zhang and Tsotras, figure 15, in whole days and gusts: three reports, the segments that they leave, and the question that crosses two of them.
 use Prim.Native.Nat.{ℕ}
 use mathlib.Core.List.{List, [], _∷_}
 use mathlib.Core.Path.{_≡_, refl}
