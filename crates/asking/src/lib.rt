@@ -1,4 +1,6 @@
 // Asking: the strongest gust that touches a box, and the pages opened to find it. It answers for every table, spoilt ones too.
+#![tactic(auto)]
+
 mod search;
 
 ghost use Rattle.std.specs.Prelude.{◌≡◌};
@@ -7,7 +9,7 @@ ghost use Rattle.asking.specs.Asking.{asked, says, told};
 use ground::Box;
 use pages::Small;
 
-#[derive(Drop)]
+#[derive(Clone, Copy)]
 pub enum Asked {
     // The refusal's number, by rule 7.22.
     Refused(u8),

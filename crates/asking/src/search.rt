@@ -17,14 +17,14 @@ use pages::{Page, Small};
 // What a search has come to: the best gust as a number (0 is Nothing, a gust v is v + 1) and the pages opened.
 // Both are as wide as a register, since they go round in every turn.
 // A best above every gust says that a page could not be opened: then every later entry is passed over.
-#[derive(Drop)]
+#[derive(Clone, Copy)]
 pub struct Found {
     pub best: u64,
     pub opened: u64,
 }
 
 // What becomes of an index entry.
-#[derive(Drop)]
+#[derive(Clone, Copy)]
 pub enum Step {
     Pass,
     // The best becomes this gust.

@@ -19,14 +19,14 @@ use recording::{Outcome, Reply};
 use wide::WideBox;
 
 // An answer, and the small record afterwards.
-#[derive(Drop)]
+#[derive(Clone, Copy)]
 pub struct Told {
     pub answer: Answer,
     pub small: Small,
 }
 
 // The small record after a line, and the place after its answer.
-#[derive(Drop)]
+#[derive(Clone, Copy)]
 pub struct Served {
     pub small: Small,
     pub next: usize,

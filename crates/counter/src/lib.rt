@@ -1,4 +1,6 @@
 // The counter program's whole work but for reading and writing: bytes of input become bytes to print.
+#![tactic(auto)]
+
 mod answering;
 mod feeding;
 
@@ -10,7 +12,7 @@ use pages::Small;
 
 // Between two chunks of input, beside the table and the line so far: the small record, the bytes of the line so far,
 // and the bytes printed so far.
-#[derive(Drop)]
+#[derive(Clone, Copy)]
 pub struct State {
     pub small: Small,
     pub held: usize,

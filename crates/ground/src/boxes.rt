@@ -4,13 +4,13 @@ ghost use Rattle.ground.specs.Boxes.{holds, touches_on, covers_on, length_on, jo
 ghost use Rattle.ground.specs.Boxes.{touches, covers, size, join, legal};
 ghost use Rattle.ground.specs.Cutting.{covers_one_end, rest_on, cut};
 
-#[derive(Drop)]
+#[derive(Clone, Copy)]
 pub struct Range {
     pub low: u16,
     pub high: u16,
 }
 
-#[derive(Drop)]
+#[derive(Clone, Copy)]
 pub struct Box {
     pub east: Range,
     pub north: Range,
@@ -18,7 +18,7 @@ pub struct Box {
 }
 
 // What a candidate does to a box that is being recorded.
-#[derive(Drop)]
+#[derive(Clone, Copy)]
 pub enum Cut {
     // The candidate covers the box whole.
     Covered,

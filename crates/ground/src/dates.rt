@@ -2,14 +2,14 @@
 ghost use Rattle.std.specs.Prelude.{◌≡◌};
 ghost use Rattle.ground.specs.Dates.{leap, length_of_month, is_date, days_before_year, days_before_month, day_of};
 
-#[derive(Drop)]
+#[derive(Clone, Copy)]
 pub struct Date {
     pub year: u32,
     pub month: u32,
     pub day: u32,
 }
 
-#[derive(Drop)]
+#[derive(Clone, Copy)]
 pub enum DayNumber {
     Day(u16),
     NoSuchDate,

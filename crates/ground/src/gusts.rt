@@ -2,7 +2,7 @@
 ghost use Rattle.std.specs.Prelude.{◌≡◌};
 ghost use Rattle.ground.specs.Boxes.{gust_passes};
 
-#[derive(Drop)]
+#[derive(Clone, Copy)]
 pub struct Gust {
     pub tenths: u16,
 }

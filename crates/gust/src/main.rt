@@ -1,4 +1,6 @@
 // The counter program: a book of 180 pages, served from standard input to standard output. All that matters is in `counter` and `serving`.
+#![tactic(auto)]
+
 ghost use Rattle.gust.specs.Program.{WholeRun};
 
 use counter::State;

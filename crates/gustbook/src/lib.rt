@@ -1,5 +1,7 @@
 // The calls for C and Rust. A table, an image and a sheet are a pointer and a length here; the small record, a box and an answer are numbers that the caller lends.
 // Each call returns 0 or the refusal's number. The numbers of a box and a gust are 32 bits wide, so that one out of range is refused and never cut short.
+#![tactic(auto)]
+
 mod answers;
 mod numbers;
 mod strips;

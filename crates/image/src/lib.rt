@@ -1,5 +1,7 @@
 // The saved image: all pages in order, each word low byte first, then a trailer of 22 bytes that points back.
 // Every function's promise is an equation with a definition, so it settles every byte, word and answer.
+#![tactic(auto)]
+
 mod trailer;
 mod words;
 
@@ -12,7 +14,7 @@ use trailer::trailer_words;
 use words::{read_words, write_words};
 
 // How many pages an image of some length has.
-#[derive(Drop)]
+#[derive(Clone, Copy)]
 pub enum ImagePages {
     Pages(usize),
     // Refusal 7: the length fits no number of pages that a book may have.

@@ -7,7 +7,7 @@ ghost use Rattle.image.specs.Image.{page_bytes, trailer_length, trailer_bytes, t
 use crate::words::read_words;
 use pages::{Page, Small};
 
-#[derive(Drop)]
+#[derive(Clone, Copy)]
 pub struct Trailer {
     // In bytes, from the trailer's start back to the root page.
     pub distance: u32,

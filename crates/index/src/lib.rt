@@ -1,4 +1,6 @@
 // The calls of the book, beside asking and recording: clear, count, save and load. None asks anything of its caller.
+#![tactic(auto)]
+
 mod clearing;
 mod counting;
 mod images;
@@ -9,13 +11,13 @@ pub use images::{load, save};
 use pages::Small;
 
 // What clearing and loading leave beside the table: the refusal's number, 0 for none, and the small record.
-#[derive(Drop)]
+#[derive(Clone, Copy)]
 pub struct Ended {
     pub refusal: u8,
     pub small: Small,
 }
 
-#[derive(Drop)]
+#[derive(Clone, Copy)]
 pub enum Counted {
     // The refusal's number, by rule 7.23.
     Refused(u8),

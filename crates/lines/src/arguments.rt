@@ -9,14 +9,14 @@ use ground::{Date, DayNumber};
 use wide::{Span, WideBox};
 
 // An argument that was read: its value, and the place after it.
-#[derive(Drop)]
+#[derive(Clone, Copy)]
 pub struct Argument {
     pub value: u32,
     pub next: usize,
 }
 
 // The six arguments of a box, and the place after them.
-#[derive(Drop)]
+#[derive(Clone, Copy)]
 pub struct BoxRead {
     pub typed: WideBox,
     pub next: usize,

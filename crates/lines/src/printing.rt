@@ -4,7 +4,7 @@ ghost use Rattle.lines.specs.Printing.{decimal, line_end, printed, longest_answe
 ghost use Rattle.lines.specs.Filling.{last_digits, Puts};
 
 // What the book says to a line.
-#[derive(Drop)]
+#[derive(Clone, Copy)]
 pub enum Answer {
     // The struck count of a record that was kept whole.
     Kept(u32),

@@ -8,7 +8,7 @@ use crate::words::{same_word, word_end};
 use wide::WideBox;
 
 // What a line asks for.
-#[derive(Drop)]
+#[derive(Clone, Copy)]
 pub enum Line {
     // A box and a gust.
     Add(WideBox, u32),

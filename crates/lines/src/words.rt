@@ -4,7 +4,7 @@ ghost use Rattle.lines.specs.Lines.{is_digit, same};
 ghost use Rattle.lines.specs.Cursor.{in_word, word_end, digits_of};
 
 // What bytes say as digits: their value, and whether all of them are digits.
-#[derive(Drop)]
+#[derive(Clone, Copy)]
 pub struct Digits {
     pub value: u32,
     pub all: bool,

@@ -1,6 +1,8 @@
 // The pages of the gust book: where each word of a page lies is known here.
 // Two crates go by the order of a box's six words beside it: `sieve` tests them where they lie, `split` works on nine boxes as words.
 // A book is a lent table of 16-bit words, a page after another, and a small record.
+#![tactic(auto)]
+
 mod free;
 mod reading;
 mod summary;
@@ -21,7 +23,7 @@ pub use words::{Laid, entry_is, page_is_zero, unused_is_zero};
 pub use writing::{free_page, put_entry, put_page};
 
 // The small record that goes with a table.
-#[derive(Drop)]
+#[derive(Clone, Copy)]
 pub struct Small {
     pub root: u32,
     pub height: u32,
@@ -31,7 +33,7 @@ pub struct Small {
 }
 
 // An entry of a page. In a leaf all after the gust is 0.
-#[derive(Drop)]
+#[derive(Clone, Copy)]
 pub struct Entry {
     pub place: Box,
     // The gust, or in an index page the strongest gust below.
@@ -43,7 +45,7 @@ pub struct Entry {
 }
 
 // A page: its level (0 free, 1 leaf, one more for each step up), its count, and its eight entries.
-#[derive(Drop)]
+#[derive(Clone, Copy)]
 pub struct Page {
     pub level: u16,
     pub count: u16,
@@ -51,7 +53,7 @@ pub struct Page {
 }
 
 // The lowest page whose level is 0, if there is one.
-#[derive(Drop)]
+#[derive(Clone, Copy)]
 pub enum FreePage {
     At(usize),
     NoPage,

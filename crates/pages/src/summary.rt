@@ -83,7 +83,7 @@ pub fn in_use(t: &[u16], p: usize) -> usize
 
 // The six ends of a box side by side, the high ones turned upside down.
 // Then all ends of a covering box are the least of their kind, and the machine takes several at once.
-#[derive(Drop)]
+#[derive(Clone, Copy)]
 pub struct Ends {
     pub east_low: u16,
     pub east_high: u16,

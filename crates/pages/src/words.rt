@@ -44,7 +44,7 @@ pub fn unused_is_zero(t: &[u16], p: usize, n: usize) -> bool
 
 // Eight words, each the greatest of those that were laid there: it is 0 only if all of them were.
 // So many entries need one test in the end, and the machine lays eight words at once.
-#[derive(Drop)]
+#[derive(Clone, Copy)]
 pub struct Laid {
     pub w0: u16,
     pub w1: u16,

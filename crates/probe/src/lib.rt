@@ -1,4 +1,6 @@
 // Recording on a book known to be well-formed, exported for bench/ alone: a shop's own calls cannot know that, and are in gustbook.
+#![tactic(auto)]
+
 mod dates;
 
 ghost use Rattle.std.specs.Prelude.{true, ◌≡◌};

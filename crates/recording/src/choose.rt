@@ -11,7 +11,7 @@ use ground::Box;
 use pages::Entry;
 
 // A place, by how much its box grows, and its size.
-#[derive(Drop)]
+#[derive(Clone, Copy)]
 pub struct Choice {
     pub at: u64,
     pub growth: u64,

@@ -7,7 +7,7 @@ use ground::{Box, Cut};
 
 // What is being recorded: the box as already cut, whether it was cut, and whether a candidate covers it.
 // It is copied at every page, and sixteen bytes are copied at once: the spare word, which means nothing, fills them up.
-#[derive(Drop)]
+#[derive(Clone, Copy)]
 pub struct Sought {
     pub place: Box,
     pub cut: bool,

@@ -13,7 +13,7 @@ use crate::table::{child_lying, load, put_at, store, summary, used_at};
 use pages::{Entry, FreePage, Page};
 
 // What became of a page: it stands, or it was split, and this page took the second group.
-#[derive(Drop)]
+#[derive(Clone, Copy)]
 pub enum Became {
     Stands,
     Split(u16),

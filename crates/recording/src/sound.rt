@@ -18,7 +18,7 @@ use ground::Box;
 use pages::Small;
 
 // The answer with the struck count, and the small record afterwards.
-#[derive(Drop)]
+#[derive(Clone, Copy)]
 pub struct Answered {
     pub outcome: Outcome,
     pub struck: u32,

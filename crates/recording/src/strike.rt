@@ -15,7 +15,7 @@ use ground::Box;
 use pages::{Entry, Page, Small};
 
 // The pages that a page's entries name. Held while they are freed, since a spoilt table may name the page itself.
-#[derive(Drop)]
+#[derive(Clone, Copy)]
 pub struct Children {
     pub count: usize,
     pub pages: [u16; Page::ENTRIES],

@@ -19,7 +19,7 @@ use ground::Box;
 use pages::Entry;
 
 // What the walk at a page hands back.
-#[derive(Drop)]
+#[derive(Clone, Copy)]
 pub struct Walked {
     pub became: Became,
     pub sought: Sought,

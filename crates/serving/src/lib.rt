@@ -1,4 +1,6 @@
 // The loop of a counter program: reads what is typed, has it served, and hands the answers to the writer. It knows no size of a table.
+#![tactic(auto)]
+
 ghost use Rattle.std.specs.Prelude.{◌&&◌, ◌≡◌, leb, ltb, length};
 ghost use Rattle.counter.specs.FeedSteps.{counter_of, Ready};
 ghost use Rattle.serving.specs.Serving.{MayServe, CameIn, HandedOver, Turned, all_handed, read_out, Served, LastHanded, Ran};
@@ -8,7 +10,7 @@ use libc::{STDIN_FILENO, STDOUT_FILENO};
 use lines::Answer;
 
 // How a program's turns end.
-#[derive(Drop)]
+#[derive(Clone, Copy)]
 pub enum Ending {
     // Nothing more comes. Everything is answered.
     InputEnded,
@@ -21,14 +23,14 @@ pub enum Ending {
 }
 
 // What a read left at the start of its buffer: no bytes at the input's end, or if it failed.
-#[derive(Drop)]
+#[derive(Clone, Copy)]
 struct Came {
     count: usize,
     failed: bool,
 }
 
 // What a turn leaves: the bytes that came in, and those of the answers to them that the writer took.
-#[derive(Drop)]
+#[derive(Clone, Copy)]
 pub struct Turn {
     state: State,
     came: usize,
@@ -45,7 +47,7 @@ impl Turn {
 }
 
 // Where the turns end.
-#[derive(Drop)]
+#[derive(Clone, Copy)]
 struct Stop {
     state: State,
     ending: Ending,

@@ -1,4 +1,6 @@
 // A sheet of questions: each row is answered by itself, in order. It answers for every table, spoilt ones too.
+#![tactic(auto)]
+
 mod row;
 
 ghost use Rattle.std.specs.Prelude.{◌≡◌};

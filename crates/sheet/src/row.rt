@@ -9,7 +9,7 @@ use pages::Small;
 use wide::{Span, WideBox};
 
 #[repr(C)]
-#[derive(Drop)]
+#[derive(Clone, Copy)]
 pub struct Row {
     pub east_low: u32,
     pub east_high: u32,

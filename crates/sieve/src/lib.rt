@@ -1,5 +1,7 @@
 // A question as a sieve: its tests on the boxes of entries where they lie, eight words at once.
 // It belongs to the pages: like them it knows the order of a box's words. Side by side, the tests of a box become one comparison of eight words.
+#![tactic(auto)]
+
 ghost use Rattle.std.specs.Prelude.{◌≡◌, ◌+◌, ◌≤◌, ◌<◌, length};
 ghost use Rattle.ground.specs.Boxes.{touches, covers};
 ghost use Rattle.pages.specs.Layout.{page_entries, entry_in};

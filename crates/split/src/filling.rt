@@ -11,13 +11,13 @@ use ground::{Box, Range};
 use pages::{Entry, Page};
 
 // The two pages of a split.
-#[derive(Drop)]
+#[derive(Clone, Copy)]
 pub struct Halves {
     pub first: Page,
     pub second: Page,
 }
 
-#[derive(Drop)]
+#[derive(Clone, Copy)]
 pub struct Nine {
     pub entries: [Entry; Nine::ENTRIES],
 }

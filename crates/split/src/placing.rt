@@ -12,14 +12,14 @@ use ground::Box;
 use pages::Page;
 
 // A group as it grows.
-#[derive(Drop)]
+#[derive(Clone, Copy)]
 pub struct Side {
     pub cover: Box,
     pub size: u64,
     pub count: usize,
 }
 
-#[derive(Drop)]
+#[derive(Clone, Copy)]
 pub struct Sides {
     pub first: Side,
     pub second: Side,
@@ -27,7 +27,7 @@ pub struct Sides {
 }
 
 // One of the unplaced, by how much either group grows with it, and by how much these differ.
-#[derive(Drop)]
+#[derive(Clone, Copy)]
 pub struct Choice {
     pub at: usize,
     pub first: u64,

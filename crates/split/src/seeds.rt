@@ -7,7 +7,7 @@ use crate::covers::{box_at, cover_size, size_of};
 use crate::filling::Nine;
 
 // Two places, the size of their covering box and both sizes: the waste is the difference, which may be negative.
-#[derive(Drop)]
+#[derive(Clone, Copy)]
 pub struct Seeds {
     pub first: usize,
     pub second: usize,

@@ -1,6 +1,8 @@
 // One site by days: a strip of segments that part all days from 0 to the last, each with a gust or nothing, neighbours unlike.
 // A strip is lent as 1,024 words and a count. A word is a segment: its last day in the high half, its value (0 nothing, v + 1 gust v) in the low half.
 // Every call answers for every strip, and what it promises settles each word.
+#![tactic(auto)]
+
 mod asking;
 mod checking;
 mod finding;
@@ -15,7 +17,7 @@ ghost use Rattle.strip.specs.StripCalls.{left_of, lent, cleared, recorded, asked
 use ground::{Box, Gust, Range};
 
 // How many words of a strip are in use.
-#[derive(Drop)]
+#[derive(Clone, Copy)]
 pub struct Strip {
     pub count: u32,
 }
@@ -31,13 +33,13 @@ impl Strip {
 }
 
 // 0 or the refusal's number, and the strip's count.
-#[derive(Drop)]
+#[derive(Clone, Copy)]
 pub struct Ended {
     pub refusal: u32,
     pub strip: Strip,
 }
 
-#[derive(Drop)]
+#[derive(Clone, Copy)]
 pub enum Asked {
     Refused(u32),
     // No day of the range has a gust.

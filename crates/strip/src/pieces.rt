@@ -3,7 +3,7 @@ ghost use Rattle.std.specs.Prelude.{◌≡◌, ◌+◌, ◌<◌, max};
 ghost use Rattle.strip.specs.Walking.{piece_first, piece_value};
 
 // A record on a strip: the strip's count, the segment to go down to, the record's days and its value.
-#[derive(Drop)]
+#[derive(Clone, Copy)]
 pub struct Raise {
     pub count: usize,
     pub start: usize,

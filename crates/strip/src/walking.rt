@@ -7,7 +7,7 @@ use crate::pieces::{Raise, piece_first, piece_value};
 use crate::words::{fewer, first_day, put_in_front, segment, value_of};
 
 // Where the walk stands: the segments and the days that are left, the place of the first word made, and the value that follows.
-#[derive(Drop)]
+#[derive(Clone, Copy)]
 pub struct Walk {
     pub segments: usize,
     pub days: usize,

@@ -9,7 +9,7 @@ use crate::marks::{mark_children, marks_stand};
 use crate::page::page_passes;
 use pages::{Page, Small};
 
-#[derive(Drop)]
+#[derive(Clone, Copy)]
 pub enum Checked {
     // Well-formed, with so many held records.
     Held(u32),
@@ -17,7 +17,7 @@ pub enum Checked {
 }
 
 // What the pass over the pages finds, beside the marks that it leaves.
-#[derive(Drop)]
+#[derive(Clone, Copy)]
 struct Findings {
     stands: bool,
     held: u32,

@@ -1,18 +1,20 @@
 // Boxes of numbers wider than a page's words, as a clerk types them or a program hands them in, and their narrowing for the book's calls.
+#![tactic(auto)]
+
 ghost use Rattle.std.specs.Prelude.{◌≡◌};
 ghost use Rattle.wide.specs.Wide.{narrow, narrow_on, narrowed};
 
 use ground::{Box, Range};
 
 // Two ends as they were given, which may be more than a page's word holds.
-#[derive(Drop)]
+#[derive(Clone, Copy)]
 pub struct Span {
     pub low: u32,
     pub high: u32,
 }
 
 // A box as it was given, its dates as days.
-#[derive(Drop)]
+#[derive(Clone, Copy)]
 pub struct WideBox {
     pub east: Span,
     pub north: Span,

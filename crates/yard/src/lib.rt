@@ -1,1 +1,2 @@
 // No code: what joins a strip of one square to the book.
+#![tactic(auto)]
