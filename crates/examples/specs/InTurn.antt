@@ -41,11 +41,11 @@ passed t s b v w e =
     let k = both (not (eqb s.accepted most_accepted)) (not (ltb (free_count (pages_of t)) (s.height + 1))) h.2 in
     rw ((parts t s w).fits, h.0, h.1, w, not-true (eqb s.accepted most_accepted) k.0, not-true (ltb (free_count (pages_of t)) (s.height + 1)) k.1)
 
-pub in_turn : (xs : List Report) (t : List ℕ) (s : Small) (l : List Entry) → well_formed t s ≡ true → all_pass (pages_of t) s xs ≡ true
+pub in_turn_lem : (xs : List Report) (t : List ℕ) (s : Small) (l : List Entry) → well_formed t s ≡ true → all_pass (pages_of t) s xs ≡ true
     → (run (calls_of xs) (record { book = record { table = t; small = s }; list = l })).book ≡ book_of (in_turn (pages_of t) s xs)
 unfolding run in_turn all_pass
-in_turn [] t s l w e = λ i. record { table = sym (table_pages t (parts t s w).fits) i; small = s }
-in_turn (x ∷ xs) t s l w e =
+in_turn_lem [] t s l w e = λ i. record { table = sym (table_pages t (parts t s w).fits) i; small = s }
+in_turn_lem (x ∷ xs) t s l w e =
     let b = x.box in
     let v = x.gust in
     let r = recorded (pages_of t) s b v in
@@ -54,5 +54,5 @@ in_turn (x ∷ xs) t s l w e =
     let k = record_law t s b v (not_refused t s b v z) in
     let m = turn (Record b v) (record { book = record { table = t; small = s }; list = l }) in
     ap (λ (c : Called). (run (calls_of xs) (record { book = record { table = c.table; small = c.small }; list = m.list })).book) (answered_law t s b v z)
-    ∙ in_turn xs (table_of r.pages) r.small m.list k.well_formed_lem (ap (λ (ps : List Page). all_pass ps r.small xs) k.same_pages ∙ h.1)
+    ∙ in_turn_lem xs (table_of r.pages) r.small m.list k.well_formed_lem (ap (λ (ps : List Page). all_pass ps r.small xs) k.same_pages ∙ h.1)
     ∙ ap (λ (ps : List Page). book_of (in_turn ps r.small xs)) k.same_pages

@@ -19,7 +19,7 @@ use Rattle.pages.specs.declared.Page.{Page}
 use Rattle.pages.specs.declared.Small.{Small}
 use Rattle.split.specs.Split.{halves, page_from, begin, seeds, places, pairs, pairs_with, most_wasteful, wastes_more, place_all, place, takes, next, first_most, growths_differ, growth as group_growth, second_takes}
 use Rattle.wellformed.specs.WellFormed.{every_below, times, children, walk, leaf_entries, held_records, root_stands, is_lower, children_lower, reached_once, count_stands, leaf_entry_stands, is_exact, entries_stand, page_stands, counts_stand, pages_stand, well_formed}
-use Rattle.rules.specs.Examples.{Report, run as in_turn, nine_in_a_row as nine-by-the-rules}
+use Rattle.rules.specs.Examples.{Report, run as in_turn, nine_in_a_row as nine_by_the_rules}
 use Rattle.rules.specs.EmptyBook.{empty_well_formed}
 use Rattle.rules.specs.Strike.{select, strike_all, strike_one, strike}
 use Rattle.rules.specs.Scan.{candidate, scan_entry, scan}
@@ -27,7 +27,7 @@ use Rattle.rules.specs.Recording.{growth, goes_before, least_grown, choose, leaf
 use Rattle.rules.specs.Record.{Called, Reply.Refused, Reply.Answered, refusal, record_into, refused}
 use Rattle.index.specs.Calls.{count_answer, CountSaid.Numbers}
 use Rattle.index.specs.Run.{Book, run}
-use Rattle.examples.specs.InTurn.{calls_of, book_of, pass_one, all_pass, in_turn}
+use Rattle.examples.specs.InTurn.{calls_of, book_of, pass_one, all_pass, in_turn_lem}
 -- The dates: 1880-03-01 is day 60; 1900-01-01 is 7,305; 2039-12-31 is 58,438.
 pub use Rattle.ground.specs.Examples.{first_of_march, new_century, last_day}
 
@@ -125,9 +125,9 @@ pub nine_in_a_row : nine ≡ record { table = table_of nine_pages; small = recor
 nine_in_a_row =
     let fits : table_fits (replicate 30_600 0) ≡ true = refl in
     let pages = empty_pages_lem (replicate 30_600 0) fits in
-    in_turn reports cleared empty_small [] (empty_well_formed (replicate 30_600 0) fits) (ap (λ (ps : List Page). all_pass ps empty_small reports) pages ∙ none_refused)
+    in_turn_lem reports cleared empty_small [] (empty_well_formed (replicate 30_600 0) fits) (ap (λ (ps : List Page). all_pass ps empty_small reports) pages ∙ none_refused)
     ∙ ap (λ (ps : List Page). book_of (in_turn ps empty_small reports)) pages
-    ∙ ap book_of nine-by-the-rules
+    ∙ ap book_of nine_by_the_rules
 
 -- Rule 9.7: asking there, east 75 to 79, gives nothing, 2 pages; 45 to 65 gives 100, 2 pages.
 abbrev ask_in : Box → Book → Asked

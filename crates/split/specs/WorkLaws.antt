@@ -105,7 +105,9 @@ unfolding most_wasteful pairs_with places wastes_more
 worse_step bs first second p q r h wp wq pq e =
     let n : 9 - second ≡ suc (9 - (second + 1)) = omega arith in
     let t : ltb (p.cover + q.both) (q.cover + p.both) ≡ wastes_more bs (pair_of q) (pair_of p) = rw (wp.cover, wp.both, wq.cover, wq.both) in
-    let c = pair_chosen (wastes_more bs (pair_of q) (pair_of p)) p q r (e ∙ ap (λ (b : Bool). cond b q p) t) in
+    let at : Pair = record { first = first; second = second } in
+    let u : ltb (p.cover + q.both) (q.cover + p.both) ≡ wastes_more bs at (pair_of p) = t ∙ ap (λ (x : Pair). wastes_more bs x (pair_of p)) pq in
+    let c = pair_chosen (wastes_more bs at (pair_of p)) p q r (e ∙ ap (λ (b : Bool). cond b q p) u) in
     rw (n, add-one second, c, pq) refl
 
 pub most_append : (bs : List Box) (p : Pair) (qs rs : List Pair) → most_wasteful bs p (qs ++ rs) ≡ most_wasteful bs (most_wasteful bs p qs) rs

@@ -44,6 +44,7 @@ most f (r ∷ rs) = max (f r) (most f rs)
 
 most_has : (f : Report → ℕ) (r : Report) (rs : List Report) → Among r rs → f r ≤ most f rs
 unfolding most
+most_has f r [] h = elim h [ ]
 most_has f r (x ∷ rs) (inl e) = omega (arith, ap f e)
 most_has f r (x ∷ rs) (inr h) = let k = most_has f r rs h in omega arith
 

@@ -28,6 +28,7 @@ first_next words i = refl
 -- a word in front, written in any case and counted if it stands
 pub in_front_lem : (made : List ℕ) (place w r : ℕ) (stands : Bool) → 1 ≤ place → place ≤ length made → r ≡ cond stands (place - 1) place → Fronted made (set made (place - 1) w) place stands w r
 unfolding in_front
+in_front_lem made zero w r stands h k e = elim h [ ]
 in_front_lem made (suc i) w r true h k e =
     let z : suc i - 1 ≡ i = omega arith in
     record {
