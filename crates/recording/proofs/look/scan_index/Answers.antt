@@ -1,0 +1,35 @@
+use Prim.Native.Nat.{◌-◌}
+use mathlib.Core.Logic.{⊎_elim}
+use mathlib.Core.Path.{sym, ap, ◌∙◌}
+use native.Mathlib.Omega.{arith}
+use Rattle.pages.specs.Layout.{entry_in, page_at}
+use Rattle.pages.specs.Summary.{in_use}
+use Rattle.sieve.specs.Sieve.{question_of}
+use Rattle.recording.specs.LookSteps.{scanned_none, scanned_more, scanned_all, index_passed, entry_used}
+use Rattle.recording.specs.ScanSteps.{index_scanned}
+use Rattle.recording.specs.Views.{sought_of}
+use Rattle.recording.proofs.look.scan_index.Goals as goal
+
+pub in_use-count-requires : goal.in_use-count-requires
+in_use-count-requires c = c.requires.0
+
+pub loop-i-init : goal.loop-i-init
+loop-i-init c = (omega arith, c.in_use-count.ensures.0, c.in_use-count.ensures.1, scanned_none _ 1 c.args.v (in_use (page_at c.args.t.now c.args.p)) (sought_of c.args.s) c.requires.2)
+
+pub may_meet-requires : goal.may_meet-requires
+may_meet-requires c = (c.requires.0, omega (arith, c.loop-i.invariant.1), c.requires.1)
+
+pub meet_strongest-requires : goal.meet_strongest-requires
+meet_strongest-requires c = (c.requires.0, omega (arith, c.loop-i.invariant.1), c.requires.1, c.loop-i.invariant.3.within)
+
+pub meet_union-found-requires : goal.meet_union-found-requires
+meet_union-found-requires c = (c.requires.0, omega (arith, c.loop-i.invariant.1))
+
+pub overflow_add-i : goal.overflow_add-i
+overflow_add-i c = record { fits = omega (arith, c.loop-i.invariant.1) }
+
+pub loop-i-preserved : goal.loop-i-preserved
+loop-i-preserved c = (omega arith, c.loop-i.invariant.1, c.loop-i.invariant.2, scanned_more (question_of c.args.q.now) 1 c.args.v (in_use (page_at c.args.t.now c.args.p)) (sought_of c.args.s) c.loop-i.i (entry_in c.args.t.now c.args.p c.loop-i.i) (sought_of c.loop-i.found) (sought_of c.if-may_meet.found) (omega (arith, c.loop-i.invariant.2)) (entry_used c.args.t.now c.args.p c.loop-i.i (omega (arith, c.loop-i.invariant.2)) (omega (arith, c.loop-i.invariant.1))) (⊎_elim (λ w. ap sought_of w.3 ∙ index_scanned 1 c.args.v (entry_in c.args.t.now c.args.p c.loop-i.i) (sought_of c.loop-i.found) (sought_of w.1.result) _ (omega arith) w.1.ensures w.2.ensures) (λ w. ap sought_of w.1 ∙ index_passed (question_of c.args.q.now) c.args.v (entry_in c.args.t.now c.args.p c.loop-i.i) (sought_of c.loop-i.found) c.loop-i.invariant.3.within (sym c.may_meet.ensures ∙ w.0.left)) c.if-may_meet.branch) c.loop-i.invariant.3)
+
+pub returns : goal.returns
+returns c = scanned_all (question_of c.args.q.now) 1 c.args.v (in_use (page_at c.args.t.now c.args.p)) (sought_of c.args.s) c.loop-i.i (sought_of c.loop-i.found) (omega (arith, c.loop-i.invariant.2)) c.loop-i.invariant.3

@@ -1,0 +1,12 @@
+use Prim.Native.Nat.{◌-◌}
+use Rattle.strip.specs.WalkingLaws.{copied_none, copied_more, copied_all}
+use Rattle.strip.proofs.words.copy.Goals as goal
+
+pub loop-i-init : goal.loop-i-init
+loop-i-init c = search copied_none
+
+pub loop-i-preserved : goal.loop-i-preserved
+loop-i-preserved c = search copied_more
+
+pub returns : goal.returns
+returns c = search copied_all
