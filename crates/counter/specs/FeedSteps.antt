@@ -2,11 +2,11 @@
 use Rattle.std.specs.Prelude.{ℕ, zero, suc, ◌+◌, ◌-◌, ◌*◌, ◌≤◌, ◌<◌, min, Bool, true, false, ◌≡◌, refl, eqb, drop, replicate}
 use mathlib.Core.List.{List, [], ◌∷◌, ◌++◌, append_assoc, append-nil}
 use Rattle.std.proofs.Common.{sym, ◌∙◌, arith, length-take, length-drop, take_all, take-take, take_at, drop_at, drop-drop, ⊎_elim, drop_of_length-le}
-use Rattle.std.proofs.Math.Path.{ap}
+use Rattle.std.proofs.Math.Path.{ap, subst}
 use Rattle.std.proofs.Math.ListN.{length, take, length-append}
 use Rattle.std.proofs.lemmas.List.{length-replicate}
 use Rattle.std.proofs.Math.Seq.{drop-append-add, take-append-add, length-take-le, take-length}
-use Rattle.bytes.specs.Bytes.{index_after, index_of}
+use Rattle.counter.specs.LineEnds.{index_after, index_of}
 use borrow.Rule.Slice.PartMut.{put_mid}
 use Rattle.ground.specs.Tests.{below_or_not}
 use Rattle.counter.specs.declared.answering.Served.{Served}
@@ -127,6 +127,22 @@ module _ (line : List ℕ) (held : ℕ) (h : IsLine line held) where
             ∙ (λ i. sym whole i ++ zeros (left i));
         long = sym long;
       }
+
+  -- only the part that they fill is lent
+  pub kept_copied :
+      (more : List ℕ) (n k : ℕ) (part : List ℕ) → n ≡ min (longest_line + 1 - held) (length more) → k ≡ n → part ≡ take n more
+      → Keeps (take held line ++ more) (put_mid held k line part) (held + n)
+  kept_copied more n k part e f g =
+      let x : List ℕ = take n more in
+      let rest : List ℕ = drop held line in
+      let m : ℕ = length line - held in
+      let size : length x ≡ k = length-take-le n more (omega (arith, e)) ∙ sym f in
+      let all : take m rest ≡ rest = take_all m rest (omega (arith, length-drop held line)) in
+      let none : drop m rest ≡ [] = drop_of_length-le rest {i = m} (omega (arith, length-drop held line)) in
+      let copied : List ℕ = take (length x) x ++ drop (length x) (take m rest) in
+      let same : copied ≡ x ++ drop k rest = λ i. take-length x i ++ drop (size i) (all i) in
+      let whole : copied ++ drop m rest ≡ part ++ drop k rest = ap (λ (y : List ℕ). copied ++ y) none ∙ append-nil copied ∙ same ∙ ap (λ (y : List ℕ). y ++ drop k rest) (sym g) in
+      subst (λ (l : List ℕ). Keeps (take held line ++ more) (take held line ++ l) (held + n)) whole (kept_more more n copied e refl)
 
 -- what is kept stands in the buffer as a line so far
 pub keeps_line : (l line : List ℕ) (held : ℕ) → Keeps l line held → IsLine line held × (take held line ≡ kept l)

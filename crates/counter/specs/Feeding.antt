@@ -6,7 +6,7 @@ use Rattle.std.proofs.Math.Path.{refl, sym, ap, subst}
 use Rattle.std.proofs.Common.{◌∙◌, arith, take-append-drop, take_at, drop-drop, length-take-le}
 use Rattle.std.proofs.Math.ListN.{length, take, drop, length-append, length-take, length-drop, drop_of_length-le}
 use Rattle.std.proofs.Math.Seq.{take_all}
-use Rattle.bytes.specs.Bytes.{slice, index_of}
+use Rattle.counter.specs.LineEnds.{slice, index_of}
 use Rattle.index.specs.Calls.{Left, unchanged, empty_book, cleared}
 use Rattle.index.specs.CallLaws.{left_of}
 use Rattle.index.specs.declared.Ended.{Ended}

@@ -1,7 +1,8 @@
 // Feeding: a chunk of input however it was cut, its lines answered, and the rest of it kept as the line so far.
 // A line that lies whole in the chunk is read where it lies.
-ghost use Rattle.std.specs.Prelude.{◌++◌, ◌≡◌, min, length, replicate, take};
-ghost use Rattle.counter.specs.Counter.{ended, longer, fed, finished};
+ghost use Rattle.std.specs.Prelude.{◌+◌, ◌≤◌, ◌++◌, ◌≡◌, min, length, replicate, take};
+ghost use Rattle.counter.specs.LineEnds.{index_of, slice};
+ghost use Rattle.counter.specs.Counter.{line_end, ended, longer, fed, finished};
 ghost use Rattle.counter.specs.FeedSteps.{counter_of, IsLine, Keeps, MayEnd, Ready, Shows, Opens};
 
 use crate::State;
@@ -43,7 +44,7 @@ fn keep(line: &mut [u8], held: usize, more: &[u8]) -> usize
     ensures { Keeps (take held line.old ++ more.now) line.new result }
 {
     let n = least(State::LINE - held, more.len());
-    bytes::copy(&more[..n], &mut line[held..]);
+    line[held..held + n].copy_from_slice(&more[..n]);
     held + n
 }
 
@@ -105,6 +106,23 @@ fn keep_rest(line: &mut [u8], s: State, rest: &[u8]) -> State
     }
 }
 
+// Where the next line ends from a place on, or the chunk does.
+fn find_end(input: &[u8], at: usize) -> usize
+    requires { at ≤ length input.now }
+    ensures from { at ≤ result }
+    ensures within { result ≤ length input.now }
+    ensures is { result ≡ at + index_of line_end (slice at (length input.now) input.now) }
+{
+    let mut i = at;
+    while i < input.len() {
+        if input[i] == b'\n' {
+            return i;
+        }
+        i += 1;
+    }
+    i
+}
+
 // A chunk of input. Each of its bytes could end a line, so the buffer has room for as many answers.
 pub fn feed(t: &mut [u16], line: &mut [u8], s: State, input: &[u8], out: &mut [u8]) -> State
     requires { Ready (length input.now) t.old line.old out.old s }
@@ -113,7 +131,7 @@ pub fn feed(t: &mut [u16], line: &mut [u8], s: State, input: &[u8], out: &mut [u
     let mut c = s;
     let mut at = 0;
     while at < input.len() {
-        let end = bytes::scan::find(input, at, input.len(), b'\n');
+        let end = find_end(input, at);
         if end == input.len() {
             return keep_rest(line, c, &input[at..]);
         }
