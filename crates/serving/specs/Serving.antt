@@ -27,6 +27,12 @@ pub record CameIn (input : List ℕ) (r : Came) : Type 0 where
   pub counts : r.count ≡ length (take r.count input)
   pub happened : Happened (take r.count input ∷ []) []
 
+-- A write: the writer was offered these bytes, and took the first so many.
+pub record Took (bytes : List ℕ) (count : ℕ) : Type 0 where
+  pub within : count ≤ length bytes
+  pub happened : Happened [] (take count bytes)
+  pub none : count ≡ 0 → 1 ≤ length bytes → TookNone bytes
+
 -- Bytes given to the writer: it took the first so many, and was offered the rest too.
 pub record Handing (bytes : List ℕ) (count : ℕ) : Type 0 where
   pub within : count ≤ length bytes

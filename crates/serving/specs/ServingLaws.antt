@@ -1,5 +1,5 @@
 -- Turn after turn: what each keeps, and what all come to.
-use Rattle.std.specs.Prelude.{ℕ, ◌+◌, ◌-◌, ◌*◌, ◌≤◌, ◌<◌, Bool, true, false, ◌&&◌, ◌≡◌, refl, leb, ltb, ℤ}
+use Rattle.std.specs.Prelude.{ℕ, ◌+◌, ◌-◌, ◌*◌, ◌≤◌, ◌<◌, Bool, true, false, ◌&&◌, ◌≡◌, refl, leb, ltb, Result, Ok, Err}
 use mathlib.Core.List.{List, [], ◌∷◌, ◌++◌, append_assoc, append-nil}
 use Rattle.std.proofs.Math.Path.{sym, ap, subst}
 use Rattle.std.proofs.Common.{◌∙◌, arith, leb-true, leb-false, ltb-false, take-append-drop, take-add, length-take-le}
@@ -13,25 +13,34 @@ use Rattle.counter.specs.declared.State.{State}
 use Rattle.ground.specs.Tests.{both}
 use Rattle.index.specs.Calls.{cleared}
 use Rattle.index.specs.Run.{Book}
-use Rattle.io.specs.Counts.{clamp_len}
-use Rattle.libc.specs.Io.{Moved}
+use Rattle.std.specs.Io.{ReadsAtMost, WritesAtMost}
+use Rattle.std.specs.declared.io.Error.{Error}
 use Rattle.pages.specs.Free.{empty_small, empty_table}
 use Rattle.pages.specs.Layout.{table_fits}
-use Rattle.serving.specs.Outside.{moved, Happened, TookNone, a_read, a_write, took_none, nothing_yet, and_then}
-use Rattle.serving.specs.Serving.{MayServe, CameIn, Handing, HandedOver, Turned, all_handed, read_out, Served, LastHanded, emptied, Offered, Ran}
+use Rattle.serving.specs.Outside.{Happened, TookNone, a_read, a_write, took_none, nothing_yet, and_then}
+use Rattle.serving.specs.Serving.{MayServe, CameIn, Took, Handing, HandedOver, Turned, all_handed, read_out, Served, LastHanded, emptied, Offered, Ran}
 use Rattle.serving.specs.declared.Came.{Came}
 use Rattle.serving.specs.declared.Ending.{Ending}
 use Rattle.serving.specs.declared.Ending.TheVariants.{NotWritten}
 use Rattle.serving.specs.declared.Turn.{Turn}
 
--- what a read left came in; its answer is kept in a machine's word and read back
-pub came_in :
-    (before after : List ℕ) (answer got : ℤ) (r : Came) → Moved (length before) answer → length after ≡ length before → got ≡ answer → r.count ≡ clamp_len got (length after) → r.count ≤ length after
-    → CameIn after r
-came_in before after answer got r h e back f within =
-    let here : Moved (length after) answer = subst (λ (n : ℕ). Moved n answer) (sym e) h in
-    let count : clamp_len answer (length after) ≡ r.count = ap (λ (z : ℤ). clamp_len z (length after)) (sym back) ∙ sym f in
-    record { within = within; counts = sym (length-take-le r.count after within); happened = subst (λ (n : ℕ). Happened (take n after ∷ []) []) count (a_read answer after here) }
+-- what a read left came in
+abbrev pub came_of : Result ℕ Error → Came
+came_of (Ok n) = record { count = n; failed = false }
+came_of (Err e) = record { count = 0; failed = true }
+
+pub came_in : (after : List ℕ) (answer : Result ℕ Error) → ReadsAtMost answer after → CameIn after (came_of answer)
+came_in after (Ok n) h = record { within = h.0; counts = h.1; happened = a_read (Ok n) after h }
+came_in after (Err e) h = record { within = omega arith; counts = refl; happened = a_read (Err e) after h }
+
+-- what a write took was handed over
+abbrev pub took_of : Result ℕ Error → ℕ
+took_of (Ok n) = n
+took_of (Err e) = 0
+
+pub took_so : (bytes : List ℕ) (answer : Result ℕ Error) → WritesAtMost answer bytes → Took bytes (took_of answer)
+took_so bytes (Ok n) h = record { within = h; happened = a_write (Ok n) bytes h; none = λ e some. took_none (Ok n) bytes h (ap (λ (k : ℕ). take k bytes) e) some }
+took_so bytes (Err e) h = record { within = omega arith; happened = a_write (Err e) bytes h; none = λ z some. took_none (Err e) bytes h refl some }
 
 -- what writes took, one after the other, was handed over
 pub handed_none : (bytes : List ℕ) → Handing bytes 0
@@ -41,36 +50,22 @@ pub handed_all : (bytes : List ℕ) (done : ℕ) → Handing bytes done → leng
 handed_all bytes done h all = record { taken = h; stopped = λ less. absurd (omega arith) }
 
 -- a write of the bytes from a place on
-module _
-    (bytes : List ℕ) (done took : ℕ) (answer got : ℤ) (h : Handing bytes done) (m : Moved (length (take (length bytes - done) (drop done bytes))) answer) (back : got ≡ answer)
-    (e : took ≡ clamp_len got (length (take (length bytes - done) (drop done bytes))))
-  where
-    part : List ℕ
-    part = take (length bytes - done) (drop done bytes)
+module _ (bytes : List ℕ) (done took : ℕ) (h : Handing bytes done) (whole : Took (take (length bytes - done) (drop done bytes)) took) where
+  k : Took (drop done bytes) took
+  k = subst (λ (l : List ℕ). Took l took) (take_all (length bytes - done) (drop done bytes) (omega (arith, length-drop done bytes))) whole
 
-    whole_part : part ≡ drop done bytes
-    unfolding part
-    whole_part = take_all (length bytes - done) (drop done bytes) (omega (arith, length-drop done bytes))
+  pub handed_more : Handing bytes (done + took)
+  handed_more =
+      let all : take done bytes ++ take took (drop done bytes) ≡ take (done + took) bytes = sym (take-add done took bytes) in
+      record {
+        within = omega (arith, h.within, k.within, length-drop done bytes);
+        happened = subst (Happened []) all (and_then [] [] (take done bytes) (take took (drop done bytes)) h.happened k.happened);
+      }
 
-    count : clamp_len answer (length part) ≡ took
-    unfolding part
-    count = ap (λ (z : ℤ). clamp_len z (length part)) (sym back) ∙ sym e
-
-    pub handed_more : took ≤ length (take (length bytes - done) (drop done bytes)) → Handing bytes (done + took)
-    unfolding part
-    handed_more less =
-        let all : take done bytes ++ moved answer part ≡ take (done + took) bytes = (λ i. take done bytes ++ take (count i) (whole_part i)) ∙ sym (take-add done took bytes) in
-        record {
-          within = omega (arith, h.within, less, ap length whole_part, length-drop done bytes);
-          happened = subst (Happened []) all (and_then [] [] (take done bytes) (moved answer part) h.happened (a_write answer part m));
-        }
-
-    pub handed_stop : took ≡ 0 → done < length bytes → HandedOver bytes done
-    unfolding part
-    handed_stop none less =
-        let nothing : moved answer part ≡ [] = ap (λ (n : ℕ). take n part) (count ∙ none) in
-        let some : 1 ≤ length part = omega (arith, less, ap length whole_part, length-drop done bytes) in
-        record { taken = h; stopped = λ g. subst TookNone whole_part (took_none answer part m nothing some) }
+  pub handed_stop : took ≡ 0 → done < length bytes → HandedOver bytes done
+  handed_stop none less =
+      let some : 1 ≤ length (drop done bytes) = omega (arith, less, length-drop done bytes) in
+      record { taken = h; stopped = λ g. k.none none some }
 
 never_both : {A : Type 0} (b : Bool) → b ≡ true → b ≡ false → A
 never_both b e f = let z : ◌≡◌ {A = ℕ} 0 1 = cc in absurd (omega arith)

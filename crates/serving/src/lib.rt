@@ -3,11 +3,11 @@
 
 ghost use Rattle.std.specs.Prelude.{◌&&◌, ◌≡◌, leb, ltb, length};
 ghost use Rattle.counter.specs.FeedSteps.{counter_of, Ready};
-ghost use Rattle.serving.specs.Serving.{MayServe, CameIn, HandedOver, Turned, all_handed, read_out, Served, LastHanded, Ran};
+ghost use Rattle.serving.specs.Serving.{MayServe, CameIn, Took, HandedOver, Turned, all_handed, read_out, Served, LastHanded, Ran};
 
 use counter::State;
-use libc::{STDIN_FILENO, STDOUT_FILENO};
 use lines::Answer;
+use std::io::{Read, Write};
 
 // How a program's turns end.
 #[derive(Clone, Copy)]
@@ -54,24 +54,38 @@ struct Stop {
 }
 
 // Reads once.
-fn take_in(input: &mut [u8]) -> Came
+fn take_in<R: Read>(reader: &mut R, input: &mut [u8]) -> Came
     ensures { CameIn input.new result }
 {
-    let got = libc::read(STDIN_FILENO, input);
-    Came {
-        count: io::count(got, input),
-        failed: got < 0,
+    match reader.read(input) {
+        Ok(count) => Came {
+            count,
+            failed: false,
+        },
+        Err(_) => Came {
+            count: 0,
+            failed: true,
+        },
+    }
+}
+
+// Offers bytes to the writer once; how many it took, none if the write failed.
+fn offer<W: Write>(writer: &mut W, bytes: &[u8]) -> usize
+    ensures { Took bytes.now result }
+{
+    match writer.write(bytes) {
+        Ok(count) => count,
+        Err(_) => 0,
     }
 }
 
 // Hands bytes over, in order, until all are taken or a write fails or takes none; how many were taken.
-fn hand_over(bytes: &[u8]) -> usize
+fn hand_over<W: Write>(writer: &mut W, bytes: &[u8]) -> usize
     ensures { HandedOver bytes.now result }
 {
     let mut done = 0;
     while done < bytes.len() {
-        let got = libc::write(STDOUT_FILENO, &bytes[done..]);
-        let took = io::count(got, &bytes[done..]);
+        let took = offer(writer, &bytes[done..]);
         if took == 0 {
             return done;
         }
@@ -81,15 +95,23 @@ fn hand_over(bytes: &[u8]) -> usize
 }
 
 // Reads once, serves what came, and hands the answers over before anything else is read.
-fn serve_some(t: &mut [u16], line: &mut [u8], s: State, input: &mut [u8], out: &mut [u8]) -> Turn
+fn serve_some<R: Read, W: Write>(
+    reader: &mut R,
+    writer: &mut W,
+    t: &mut [u16],
+    line: &mut [u8],
+    s: State,
+    input: &mut [u8],
+    out: &mut [u8],
+) -> Turn
     requires { Ready (length input.old) t.old line.old out.old s }
     ensures { Turned (counter_of t.old line.old out.old s) out.old input.new t.new line.new out.new result }
 {
-    let came = take_in(input);
+    let came = take_in(reader, input);
     let n = came.count;
     let state = counter::feed(t, line, s, &input[..n], out);
     let printed = state.printed;
-    let handed = hand_over(&out[..printed]);
+    let handed = hand_over(writer, &out[..printed]);
     Turn {
         state,
         came: n,
@@ -119,14 +141,22 @@ fn ends_by(turn: Turn) -> Ending
 }
 
 // A proved loop has to end, so it counts its turns down, from a number that no run uses up.
-fn serve_all(t: &mut [u16], line: &mut [u8], s: State, input: &mut [u8], out: &mut [u8]) -> Stop
+fn serve_all<R: Read, W: Write>(
+    reader: &mut R,
+    writer: &mut W,
+    t: &mut [u16],
+    line: &mut [u8],
+    s: State,
+    input: &mut [u8],
+    out: &mut [u8],
+) -> Stop
     requires { Ready (length input.old) t.old line.old out.old s }
     ensures { Served (counter_of t.old line.old out.old s) (length input.old) t.new line.new out.new result.state (all_handed result.ending) (read_out result.ending) }
 {
     let mut state = s;
     let mut turns = u64::MAX;
     while turns > 0 {
-        let turn = serve_some(t, line, state, input, out);
+        let turn = serve_some(reader, writer, t, line, state, input, out);
         let fed = turn.state;
         state = fed.written();
         if !goes_on(turn) {
@@ -155,27 +185,34 @@ fn all_handed(ending: Ending) -> bool
 }
 
 // The last answer goes behind all others, or nowhere.
-fn hand_last(ending: Ending, bytes: &[u8]) -> Ending
+fn hand_last<W: Write>(writer: &mut W, ending: Ending, bytes: &[u8]) -> Ending
     ensures { LastHanded ending bytes.now result }
 {
     if !all_handed(ending) {
         return ending;
     }
-    if hand_over(bytes) < bytes.len() {
+    if hand_over(writer, bytes) < bytes.len() {
         return Ending::NotWritten;
     }
     ending
 }
 
 // A whole run, on a table that is cleared first: turn after turn until nothing more comes, a read fails or the writer takes no more.
-pub fn serve(t: &mut [u16], line: &mut [u8], input: &mut [u8], out: &mut [u8]) -> Ending
+pub fn serve<R: Read, W: Write>(
+    reader: &mut R,
+    writer: &mut W,
+    t: &mut [u16],
+    line: &mut [u8],
+    input: &mut [u8],
+    out: &mut [u8],
+) -> Ending
     requires { MayServe t.old line.old input.old out.old }
     ensures { Ran t.old t.new result }
 {
     let opened = counter::open(t);
-    let stop = serve_all(t, line, opened, input, out);
+    let stop = serve_all(reader, writer, t, line, opened, input, out);
     let last = counter::finish(t, line, stop.state, out);
     let printed = last.printed;
     let ending = stop.ending;
-    hand_last(ending, &out[..printed])
+    hand_last(writer, ending, &out[..printed])
 }
