@@ -4,35 +4,30 @@
 ghost use Rattle.gust.specs.Program.{WholeRun};
 
 use counter::State;
-use libc::STDERR_FILENO;
 use serving::{Ending, Turn};
+use std::io::Write;
 
 // What a clerk is told if the answers end early.
-fn tell(ending: Ending) {
+fn tell<W: Write>(writer: &mut W, ending: Ending) {
     match ending {
         Ending::InputEnded => {}
         Ending::ReadFailed => {
-            io::write_all(
-                STDERR_FILENO,
+            let _ = writer.write_all(
                 b"gust: the input could not be read to its end; what came before is answered\n",
             );
         }
         Ending::TurnsSpent => {
-            io::write_all(
-                STDERR_FILENO,
-                b"gust: no more is read; what came before is answered\n",
-            );
+            let _ = writer.write_all(b"gust: no more is read; what came before is answered\n");
         }
         Ending::NotWritten => {
-            io::write_all(
-                STDERR_FILENO,
+            let _ = writer.write_all(
                 b"gust: the answers could not be written; what was asked from there on is not answered\n",
             );
         }
     }
 }
 
-fn run()
+fn run(rt: HostRuntime)
     ensures { WholeRun }
 {
     // A page table of 180 empty pages.
@@ -40,9 +35,17 @@ fn run()
     let mut line = [0u8; State::LINE];
     let mut input = [0u8; Turn::CHUNK];
     let mut out = [0u8; Turn::ANSWERS];
-    tell(serving::serve(&mut table, &mut line, &mut input, &mut out));
+    let ending = serving::serve(
+        &mut rt.stdin(),
+        &mut rt.stdout(),
+        &mut table,
+        &mut line,
+        &mut input,
+        &mut out,
+    );
+    tell(&mut rt.stderr(), ending);
 }
 
-fn main() {
-    run();
+fn main(rt: HostRuntime) {
+    run(rt);
 }
