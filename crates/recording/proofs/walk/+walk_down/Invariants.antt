@@ -3,4 +3,5 @@ use Rattle.recording.specs.WalkSteps.{lies, may_walk_leaf, leaf_walks, index_cov
 use Prim.Native.Nat.{ℕ, ◌<◌}
 use Rattle.recording.proofs.walk.+walk_down.Given as goal
 
--- TODO Measures 2 walk-down-kinds.ps ℕ μ-walk-down κs a = a.1.0
+abbrev pub decreases-walk_down : goal.decreases-walk_down
+decreases-walk_down l = l.n
