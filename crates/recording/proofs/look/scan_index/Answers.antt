@@ -1,4 +1,3 @@
-use Prim.Native.Nat.{◌-◌}
 use Rattle.rules.specs.Scan.{scan_entry}
 use mathlib.Core.Path.{◌≡◌, sym, ap, ◌∙◌}
 use native.Mathlib.Omega.{arith}
@@ -34,10 +33,10 @@ loop-i-preserved c =
     let v = c.loop-i.invariant in
     let e = entry_in c.args.t.now c.args.p c.loop-i.i in
     let m : sought_of c.if-may_meet.found ≡ scan_entry 1 c.args.v e (sought_of c.loop-i.found) =
-        elim c.if-may_meet.branch [
-          then-may_meet w ↦ ap sought_of w.found-is ∙ index_scanned 1 c.args.v e (sought_of c.loop-i.found) (sought_of w.meet_strongest.result) _ (omega arith) w.meet_strongest.ensures w.meet_union-found.ensures
-          | else-may_meet w ↦ ap sought_of w.found-is ∙ index_passed (question_of c.args.q.now) c.args.v e (sought_of c.loop-i.found) v.3.within (sym c.may_meet.ensures ∙ w.if-may_meet.false)
-        ] in (
+    elim c.if-may_meet.branch [
+      | then-may_meet w ↦ ap sought_of w.found-is ∙ index_scanned 1 c.args.v e (sought_of c.loop-i.found) (sought_of w.meet_strongest.result) _ (omega arith) w.meet_strongest.ensures w.meet_union-found.ensures
+      | else-may_meet w ↦ ap sought_of w.found-is ∙ index_passed (question_of c.args.q.now) c.args.v e (sought_of c.loop-i.found) v.3.within (sym c.may_meet.ensures ∙ w.if-may_meet.false)
+    ] in (
       omega arith,
       v.1,
       v.2,

@@ -1,4 +1,3 @@
-use Prim.Native.Nat.{◌-◌}
 use Rattle.rules.specs.Scan.{scan_entry}
 use mathlib.Core.Path.{◌≡◌, refl, sym, ap, ◌∙◌}
 use native.Mathlib.Omega.{arith}
@@ -31,10 +30,10 @@ loop-i-preserved c =
     let v = c.loop-i.invariant in
     let e = entry_in c.args.t.now c.args.p c.loop-i.i in
     let m : sought_of c.if-place_touches.found ≡ scan_entry 0 c.args.v e (sought_of c.loop-i.found) =
-        elim c.if-place_touches.branch [
-          then-place_touches w ↦ ap sought_of w.found-is ∙ leaf_scanned 0 c.args.v e (sought_of c.loop-i.found) _ refl w.meet_place-found.ensures
-          | else-place_touches w ↦ ap sought_of w.found-is ∙ leaf_passed (question_of c.args.q.now) c.args.v e (sought_of c.loop-i.found) v.3.within (sym c.place_touches.ensures ∙ w.if-place_touches.false)
-        ] in (
+    elim c.if-place_touches.branch [
+      | then-place_touches w ↦ ap sought_of w.found-is ∙ leaf_scanned 0 c.args.v e (sought_of c.loop-i.found) _ refl w.meet_place-found.ensures
+      | else-place_touches w ↦ ap sought_of w.found-is ∙ leaf_passed (question_of c.args.q.now) c.args.v e (sought_of c.loop-i.found) v.3.within (sym c.place_touches.ensures ∙ w.if-place_touches.false)
+    ] in (
       omega arith,
       v.1,
       v.2,

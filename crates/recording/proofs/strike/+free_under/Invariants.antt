@@ -1,15 +1,11 @@
-use Rattle.recording.specs.StrikeSteps.{free_all, Left, left_start, freed_leaf, freed_index, freed_turn, freed_end}
-use Rattle.recording.specs.TableSteps.{still_fits}
+use Rattle.recording.specs.StrikeSteps.{free_all, Left}
 use Rattle.wellformed.specs.WellFormed.{page, child_of}
 use Rattle.pages.specs.Summary.{in_use}
 use Rattle.pages.specs.Layout.{pages_of}
-use borrow.Author.Rules.{rules}
-use native.Mathlib.Omega.{arith}
-use mathlib.Core.Path.{◌≡◌, refl, ◌∙◌, ap}
+use mathlib.Core.Path.{◌≡◌}
 use mathlib.Core.List.{map}
 use lib.ListN.{length, drop}
-use Prim.Native.Nat.{ℕ, ◌<◌, ◌≤◌, ◌-◌}
-use Prim.Native.Nat.{ℕ, ◌<◌}
+use Prim.Native.Nat.{◌≤◌, ◌-◌}
 use Rattle.recording.proofs.strike.+free_under.Given as goal
 
 abbrev pub decreases-free_under : goal.decreases-free_under

@@ -3,7 +3,6 @@ use Rattle.std.specs.Prelude.{not}
 use Rattle.recording.specs.StrikeSteps.{closing_none, closing_kept, closing_struck, closed}
 use native.Mathlib.Omega.{arith}
 use mathlib.Core.Path.{ap}
-use Prim.Native.Nat.{◌-◌}
 use Rattle.recording.proofs.strike.close_up.Goals as goal
 use Rattle.recording.proofs.strike.close_up.Goals.{then-not-is_struck, else-not-is_struck}
 
@@ -17,7 +16,7 @@ loop-i-preserved c =
       v.1,
       v.2,
       elim c.if-not-is_struck.branch [
-        then-not-is_struck w ↦ closing_kept _ _ c.loop-i.i c.loop-i.k _ c.args.x c.is_struck.result c.loop-i.kept.entries _ (omega (arith, v.2)) (omega (arith, v.2)) c.is_struck.ensures (ap not w.if-not-is_struck.true) (ap (λ (x : Page). x.entries) w.kept-is) w.k-is v.3
+        | then-not-is_struck w ↦ closing_kept _ _ c.loop-i.i c.loop-i.k _ c.args.x c.is_struck.result c.loop-i.kept.entries _ (omega (arith, v.2)) (omega (arith, v.2)) c.is_struck.ensures (ap not w.if-not-is_struck.true) (ap (λ (x : Page). x.entries) w.kept-is) w.k-is v.3
         | else-not-is_struck w ↦ closing_struck _ _ c.loop-i.i c.loop-i.k _ c.args.x c.is_struck.result c.loop-i.kept.entries _ (omega (arith, v.2)) c.is_struck.ensures (ap not w.if-not-is_struck.false) (ap (λ (x : Page). x.entries) w.kept-is) w.k-is v.3
       ],
     )
