@@ -1,23 +1,19 @@
-use Rattle.asking.specs.Turns.{opened_record, opened_few, opened_some, gust_small, entry_pass, entry_raise, open_low, entry_opened, entry_refused}
-use Rattle.asking.specs.Turns.{in_use_next, in_use_none, order_turn, order_end, index_start, leaf_page}
 use Rattle.asking.specs.Seen.{OpenedPage, seen, searched_in}
 use Rattle.asking.specs.Asking.{search_entry, search_page, in_order}
 use Rattle.wellformed.specs.WellFormed.{page}
-use Rattle.sieve.specs.SieveLaws.{Words}
 use Rattle.sieve.specs.Sieve.{question_of}
 use Rattle.pages.specs.Summary.{in_use}
 use Rattle.pages.specs.Layout.{pages_of, count_at}
-use borrow.Author.Rules.{rules}
 use lib.ListN.{drop}
-use mathlib.Core.Path.{◌≡◌, sym, ◌∙◌}
+use mathlib.Core.Path.{◌≡◌}
 use Prim.Native.Nat.{◌≤◌, ◌-◌, ◌+◌}
-use native.Mathlib.Omega.{arith}
-use Prim.Native.Nat.{ℕ, ◌<◌}
 use Rattle.asking.proofs.search.+search_entry_search_page.Given as goal
 
--- TODO Measures 2 search-entry-kinds.ps ℕ μ-search-entry κs a = a.1.1.1.0 + a.1.1.1.0
+abbrev pub decreases-search_entry : goal.decreases-search_entry
+decreases-search_entry l = l.level + l.level
 
--- TODO Measures 2 search-page-kinds.ps ℕ μ-search-page κs a = a.1.1.0 + a.1.1.0 + 1
+abbrev pub decreases-search_page : goal.decreases-search_page
+decreases-search_page l = l.level + l.level + 1
 
 abbrev pub invariant-search_page-loop-i : goal.invariant-search_page-loop-i
 invariant-search_page-loop-i l =

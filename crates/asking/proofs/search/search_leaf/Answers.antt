@@ -1,6 +1,5 @@
 use Rattle.asking.specs.Turns.{in_use_next, in_use_none, leaf_turn, leaf_end}
 use mathlib.Core.Path.{refl}
-use Prim.Native.Nat.{◌-◌}
 use native.Mathlib.Omega.{arith}
 use Rattle.asking.proofs.search.search_leaf.Goals as goal
 

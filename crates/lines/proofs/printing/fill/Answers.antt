@@ -1,4 +1,3 @@
-use Prim.Native.Nat.{◌-◌}
 use native.Mathlib.Omega.{arith}
 use Rattle.lines.proofs.Fills.{copied_none, copied_more, copied_all}
 use Rattle.lines.proofs.printing.fill.Goals as goal

@@ -12,6 +12,9 @@ returns-then-line-gt-LONGEST c = sym (long_refused _ c.if-line-gt-LONGEST.true)
 pub slice_bounds-same_word-end : goal.slice_bounds-same_word-end
 slice_bounds-same_word-end c = sym (length-take-le _ _ (omega (arith, c.word_end-end.ensures, end_within c.args.line.now 0 (omega arith))))
 
+pub slice_bounds-same_word-end-3 : goal.slice_bounds-same_word-end-3
+slice_bounds-same_word-end-3 c = sym (length-take-le _ _ (omega (arith, c.word_end-end.ensures, end_within c.args.line.now 0 (omega arith))))
+
 pub overflow_add-end : goal.overflow_add-end
 overflow_add-end c = record { fits = omega (arith, c.word_end-end.ensures, end_within c.args.line.now 0 (omega arith)) }
 

@@ -1,5 +1,4 @@
 use mathlib.Core.Path.{refl}
-use Prim.Native.Nat.{◌-◌}
 use native.Mathlib.Omega.{arith}
 use Rattle.lines.proofs.Turns.{read_room, read_more, read_all}
 use Rattle.lines.proofs.words.read_digits.Goals as goal

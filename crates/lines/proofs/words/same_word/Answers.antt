@@ -1,4 +1,3 @@
-use Prim.Native.Nat.{◌-◌}
 use Rattle.lines.proofs.Turns.{unlike, compared_more, compared_all}
 use Rattle.lines.proofs.words.same_word.Goals as goal
 

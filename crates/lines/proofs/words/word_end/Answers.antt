@@ -1,5 +1,4 @@
 use mathlib.Core.Path.{sym, ◌∙◌}
-use Prim.Native.Nat.{◌-◌}
 use native.Mathlib.Omega.{arith}
 use Rattle.lines.proofs.Turns.{in_line, word_on, word_over}
 use Rattle.lines.proofs.words.word_end.Goals as goal

@@ -4,7 +4,6 @@ use Rattle.pages.specs.Summary.{in_use}
 use Rattle.pages.specs.Layout.{page_at}
 use native.Mathlib.Omega.{arith}
 use mathlib.Core.Path.{◌∙◌}
-use Prim.Native.Nat.{◌-◌}
 use Rattle.recording.proofs.choose.choose_at.Goals as goal
 
 pub in_use-count-requires : goal.in_use-count-requires

@@ -1,4 +1,3 @@
-use Prim.Native.Nat.{◌-◌}
 use native.Mathlib.Omega.{arith}
 use Rattle.pages.specs.Layout.{entry_in, page_at}
 use Rattle.pages.specs.Summary.{in_use}

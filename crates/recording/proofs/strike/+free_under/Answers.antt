@@ -1,22 +1,14 @@
-use Rattle.recording.specs.StrikeSteps.{free_all, Left, left_start, freed_leaf, freed_index, freed_turn, freed_end}
+use Rattle.recording.specs.StrikeSteps.{left_start, freed_leaf, freed_index, freed_turn, freed_end}
 use Rattle.recording.specs.TableSteps.{still_fits}
-use Rattle.wellformed.specs.WellFormed.{page, child_of}
-use Rattle.pages.specs.Summary.{in_use}
-use Rattle.pages.specs.Layout.{pages_of}
-use borrow.Author.Rules.{rules}
 use native.Mathlib.Omega.{arith}
-use mathlib.Core.Path.{◌≡◌, refl, ◌∙◌, ap}
-use mathlib.Core.List.{map}
-use lib.ListN.{length, drop}
-use Prim.Native.Nat.{ℕ, ◌<◌, ◌≤◌, ◌-◌}
-use Prim.Native.Nat.{ℕ, ◌<◌}
+use mathlib.Core.Path.{refl, ◌∙◌}
 use Rattle.recording.proofs.strike.+free_under.Goals as goal
 
 pub children_of-below-requires : goal.children_of-below-requires
-children_of-below-requires t c = c.requires.1
+children_of-below-requires t c = c.requires
 
 pub release-requires : goal.release-requires
-release-requires t c = c.requires.1
+release-requires t c = c.requires
 
 pub overflow_cast-count : goal.overflow_cast-count
 overflow_cast-count t c = omega (arith, c.children_of-below.ensures.count_most)
@@ -31,7 +23,7 @@ pub offset_bounds-below-i : goal.offset_bounds-below-i
 offset_bounds-below-i t c = record { fits = omega (arith, c.children_of-below.ensures.count_most) }
 
 pub free_under-sum-requires : goal.free_under-sum-requires
-free_under-sum-requires t c = (omega arith, still_fits c.args.t.now c.loop-i.t c.requires.1 c.loop-i.invariant.1)
+free_under-sum-requires t c = (omega arith, still_fits c.args.t.now c.loop-i.t c.requires c.loop-i.invariant.1)
 
 pub overflow_add-i : goal.overflow_add-i
 overflow_add-i t c = record { fits = omega (arith, c.children_of-below.ensures.count_most) }
@@ -40,7 +32,7 @@ pub loop-i-preserved : goal.loop-i-preserved
 loop-i-preserved t c = (omega arith, c.free_under-sum.ensures.same_length ∙ c.loop-i.invariant.1, freed_turn _ c.loop-i.i _ _ _ _ _ _ c.children_of-below.result _ c.children_of-below.ensures c.loop-i-test.true c.free_under-sum.ensures c.loop-i.invariant.2)
 
 pub release-requires-2 : goal.release-requires-2
-release-requires-2 t c = still_fits c.args.t.now c.loop-i.t c.requires.1 c.loop-i.invariant.1
+release-requires-2 t c = still_fits c.args.t.now c.loop-i.t c.requires c.loop-i.invariant.1
 
 pub returns : goal.returns
 returns t c = freed_index _ _ _ _ _ _ _ (omega arith) (freed_end _ c.loop-i.i _ _ _ _ _ c.children_of-below.result _ c.children_of-below.ensures c.loop-i-test.false c.loop-i.invariant.1 c.loop-i.invariant.2) c.release-2.ensures

@@ -2,7 +2,6 @@ use Rattle.recording.specs.StrikeSteps.{struck_start, struck_turn, struck_end, u
 use Rattle.recording.specs.TableSteps.{still_fits}
 use native.Mathlib.Omega.{arith}
 use mathlib.Core.Path.{refl, ◌∙◌}
-use Prim.Native.Nat.{◌-◌}
 use Rattle.recording.proofs.strike.strike.Goals as goal
 
 pub loop-i-init : goal.loop-i-init

@@ -1,6 +1,5 @@
 use borrow.Author.Rules.{rules}
 use Rattle.recording.specs.WalkSteps.{lies, may_walk_leaf, leaf_walks, index_covered, may_strike_child, may_go_down, may_come_back, came_back_lem}
-use Prim.Native.Nat.{ℕ, ◌<◌}
 use Rattle.recording.proofs.walk.+walk_down.Goals as goal
 
 pub at_leaf-requires : goal.at_leaf-requires
@@ -26,7 +25,7 @@ walk_down-lower-requires t c = (
   search rules,
   (
     may_go_down c.args.n c.args.v c.args.p c.args.struck c.args.t.now c.args.q.now c.args.s c.scan_index-found.result
-        c.requires.1.0 c.if-n-eq0.false c.scan_index-found.ensures c.choose_at-i.result c.child_lying-child.result c.if-found.false c.choose_at-i.ensures c.child_lying-child.ensures
+        c.requires.0 c.if-n-eq0.false c.scan_index-found.ensures c.choose_at-i.result c.child_lying-child.result c.if-found.false c.choose_at-i.ensures c.child_lying-child.ensures
         c.strike_at-more.result c.strike_at-more.new.t c.strike_at-more.ensures,
     search rules,
   ),
@@ -35,14 +34,14 @@ walk_down-lower-requires t c = (
 pub come_back-became-requires : goal.come_back-became-requires
 come_back-became-requires t c =
     may_come_back c.args.n c.args.v c.args.p c.args.struck c.args.t.now c.args.q.now c.args.s c.scan_index-found.result
-    c.requires.1.0 c.if-n-eq0.false c.scan_index-found.ensures c.choose_at-i.result c.child_lying-child.result c.if-found.false c.choose_at-i.ensures c.child_lying-child.ensures
+    c.requires.0 c.if-n-eq0.false c.scan_index-found.ensures c.choose_at-i.result c.child_lying-child.result c.if-found.false c.choose_at-i.ensures c.child_lying-child.ensures
     c.strike_at-more.result c.strike_at-more.new.t c.strike_at-more.ensures c.more_struck.result c.walk_down-lower.new.t c.walk_down-lower.result
-    c.more_struck.ensures c.walk_down-lower.ensures c.requires.1.1
+    c.more_struck.ensures c.walk_down-lower.ensures c.requires.1
 
 pub returns : goal.returns
 returns t c =
     came_back_lem c.args.n c.args.v c.args.p c.args.struck c.args.t.now c.args.q.now c.args.s c.scan_index-found.result
-    c.requires.1.0 c.if-n-eq0.false c.scan_index-found.ensures c.choose_at-i.result c.child_lying-child.result c.if-found.false c.choose_at-i.ensures c.child_lying-child.ensures
+    c.requires.0 c.if-n-eq0.false c.scan_index-found.ensures c.choose_at-i.result c.child_lying-child.result c.if-found.false c.choose_at-i.ensures c.child_lying-child.ensures
     c.strike_at-more.result c.strike_at-more.new.t c.strike_at-more.ensures c.more_struck.result c.walk_down-lower.new.t c.walk_down-lower.result
     c.more_struck.ensures c.walk_down-lower.ensures
     c.come_back-became.new.t c.come_back-became.result c.come_back-became.ensures

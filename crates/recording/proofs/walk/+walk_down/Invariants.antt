@@ -1,6 +1,4 @@
-use borrow.Author.Rules.{rules}
-use Rattle.recording.specs.WalkSteps.{lies, may_walk_leaf, leaf_walks, index_covered, may_strike_child, may_go_down, may_come_back, came_back_lem}
-use Prim.Native.Nat.{ℕ, ◌<◌}
 use Rattle.recording.proofs.walk.+walk_down.Given as goal
 
--- TODO Measures 2 walk-down-kinds.ps ℕ μ-walk-down κs a = a.1.0
+abbrev pub decreases-walk_down : goal.decreases-walk_down
+decreases-walk_down l = l.n
