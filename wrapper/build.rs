@@ -1,4 +1,4 @@
-//! Links the library that `rt staticlib gustbook` leaves in the repository's target folder.
+//! Links target/staticlib/libgustbook.a of the repository: what `rt lib` makes of crates/gustbook_c.
 fn main() {
     let here = std::env::var("CARGO_MANIFEST_DIR").expect("cargo sets it");
     println!("cargo:rustc-link-search=native={here}/../target/staticlib");

@@ -19,7 +19,7 @@ use Rattle.pages.specs.declared.Page.{Page}
 use Rattle.pages.specs.declared.Small.{Small}
 use Rattle.wellformed.specs.Parts.{parts}
 use Rattle.wellformed.specs.WellFormed.{page, root_stands, well_formed}
-use Rattle.rules.specs.Record.{refused, refusal, record_into}
+use Rattle.rules.specs.Record.{refusal, record_into}
 use Rattle.rules.specs.RecordLaws.{refused_law}
 use Rattle.gustbook.specs.Boundary.{small_of, numbers_of, box_of, LeftInNumbers, left_in_numbers, Told, Recorded, record_leaves}
 

@@ -1,4 +1,4 @@
-// The calls for C and Rust. A table, an image and a sheet are a pointer and a length here; the small record, a box and an answer are numbers that the caller lends.
+// The calls for C and Rust, which gustbook_c exports. A table, an image and a sheet are a pointer and a length there; the small record, a box and an answer are numbers that the caller lends.
 // Each call returns 0 or the refusal's number. The numbers of a box and a gust are 32 bits wide, so that one out of range is refused and never cut short.
 #![tactic(auto)]
 
@@ -21,8 +21,7 @@ pub use strips::{gust_strip_ask, gust_strip_clear, gust_strip_record};
 use wide::narrow;
 
 // Refusal 1.
-#[unsafe(no_mangle)]
-pub extern "C" fn gust_clear(table: &mut [u16], small: &mut [u32; 5]) -> u32
+pub fn gust_clear(table: &mut [u16], small: &mut [u32; 5]) -> u32
     ensures { record { refusal = result; table = table.new; small = small.new } ≡ left_in_numbers (cleared table.old (small_of small.old)) }
 {
     let ended = index::clear(table, small_of(small));
@@ -31,8 +30,7 @@ pub extern "C" fn gust_clear(table: &mut [u16], small: &mut [u32; 5]) -> u32
 }
 
 // Refusals 1 to 6. The answer: 0 kept, 1 cut, 2 covered; the struck count.
-#[unsafe(no_mangle)]
-pub extern "C" fn gust_record(
+pub fn gust_record(
     table: &mut [u16],
     small: &mut [u32; 5],
     place: &[u32; 6],
@@ -48,13 +46,7 @@ pub extern "C" fn gust_record(
 }
 
 // Refusals 1, 2 and 4. The answer: 1 and the gust, or 0 and 0 for nothing; the pages opened.
-#[unsafe(no_mangle)]
-pub extern "C" fn gust_ask(
-    table: &[u16],
-    small: &[u32; 5],
-    place: &[u32; 6],
-    answer: &mut [u32; 3],
-) -> u32
+pub fn gust_ask(table: &[u16], small: &[u32; 5], place: &[u32; 6], answer: &mut [u32; 3]) -> u32
     ensures { record { refusal = result; answer = answer.new } ≡ ask_told (asked table.now (small_of small.now) (box_of place.now)) answer.old }
 {
     let said = asking::ask(table, small_of(small), box_of(place));
@@ -62,16 +54,14 @@ pub extern "C" fn gust_ask(
 }
 
 // Refusal 11, of a sheet of more than 32 rows; 1, 2 and 4 go into the rows. An answer: as for gust_ask, and the refusal's number or 0 before it.
-#[unsafe(no_mangle)]
-pub extern "C" fn gust_ask_sheet(table: &[u16], small: &[u32; 5], rows: &mut [Row]) -> u32
+pub fn gust_ask_sheet(table: &[u16], small: &[u32; 5], rows: &mut [Row]) -> u32
     ensures { record { refusal = result; rows = rows.new } ≡ sheet table.now (small_of small.now) rows.old }
 {
     sheet::ask_sheet(table, small_of(small), rows)
 }
 
 // Refusals 1 and 4. The answer: accepted, held, struck, covered.
-#[unsafe(no_mangle)]
-pub extern "C" fn gust_count(table: &[u16], small: &[u32; 5], answer: &mut [u32; 4]) -> u32
+pub fn gust_count(table: &[u16], small: &[u32; 5], answer: &mut [u32; 4]) -> u32
     ensures { record { refusal = result; answer = answer.new } ≡ count_told (counted table.now (small_of small.now)) answer.old }
 {
     let said = index::count(table, small_of(small));
@@ -79,16 +69,14 @@ pub extern "C" fn gust_count(table: &[u16], small: &[u32; 5], answer: &mut [u32;
 }
 
 // Refusals 1, 7 and 4.
-#[unsafe(no_mangle)]
-pub extern "C" fn gust_save(table: &[u16], small: &[u32; 5], image: &mut [u8]) -> u32
+pub fn gust_save(table: &[u16], small: &[u32; 5], image: &mut [u8]) -> u32
     ensures { record { refusal = result; buffer = image.new } ≡ saved table.now (small_of small.now) image.old }
 {
     index::save(table, small_of(small), image) as u32
 }
 
 // Refusals 7, 1, 8 and 4. One that ends in 4 leaves the empty book.
-#[unsafe(no_mangle)]
-pub extern "C" fn gust_load(image: &[u8], table: &mut [u16], small: &mut [u32; 5]) -> u32
+pub fn gust_load(image: &[u8], table: &mut [u16], small: &mut [u32; 5]) -> u32
     ensures { record { refusal = result; table = table.new; small = small.new } ≡ left_in_numbers (loaded image.now table.old (small_of small.old)) }
 {
     let ended = index::load(image, table, small_of(small));

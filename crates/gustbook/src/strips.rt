@@ -1,4 +1,4 @@
-// The calls on a strip for C and Rust. The segments are a pointer and a length here, the count and the days numbers that the caller lends.
+// The calls on a strip for C and Rust, which gustbook_c exports. The segments are a pointer and a length there, the count and the days numbers that the caller lends.
 ghost use Rattle.std.specs.Prelude.{◌≡◌};
 ghost use Rattle.strip.specs.StripCalls.{cleared, recorded, asked};
 ghost use Rattle.wide.specs.Wide.{narrow};
@@ -9,8 +9,7 @@ use strip::{Asked, Strip};
 use wide::narrow;
 
 // Refusal 4.
-#[unsafe(no_mangle)]
-pub extern "C" fn gust_strip_clear(segments: &mut [u32], count: &mut u32) -> u32
+pub fn gust_strip_clear(segments: &mut [u32], count: &mut u32) -> u32
     ensures { record { refusal = result; strip = record { words = segments.new; count = count.new } } ≡ cleared (record { words = segments.old; count = count.old }) }
 {
     let ended = strip::clear(segments, Strip { count: *count });
@@ -20,13 +19,7 @@ pub extern "C" fn gust_strip_clear(segments: &mut [u32], count: &mut u32) -> u32
 }
 
 // Refusals 2, 3, 4 and 10.
-#[unsafe(no_mangle)]
-pub extern "C" fn gust_strip_record(
-    segments: &mut [u32],
-    count: &mut u32,
-    days: &[u32; 2],
-    gust: u32,
-) -> u32
+pub fn gust_strip_record(segments: &mut [u32], count: &mut u32, days: &[u32; 2], gust: u32) -> u32
     ensures { record { refusal = result; strip = record { words = segments.new; count = count.new } } ≡ recorded (record { words = segments.old; count = count.old }) (days_of days.now) gust }
 {
     let tenths = narrow(gust);
@@ -42,13 +35,7 @@ pub extern "C" fn gust_strip_record(
 }
 
 // Refusals 2 and 4. The answer: 1 and the gust, or 0 and 0 for nothing.
-#[unsafe(no_mangle)]
-pub extern "C" fn gust_strip_ask(
-    segments: &[u32],
-    count: u32,
-    days: &[u32; 2],
-    answer: &mut [u32; 2],
-) -> u32
+pub fn gust_strip_ask(segments: &[u32], count: u32, days: &[u32; 2], answer: &mut [u32; 2]) -> u32
     ensures { record { refusal = result; answer = answer.new } ≡ strip_told (asked (record { words = segments.now; count = count }) (days_of days.now)) answer.old }
 {
     let said = strip::ask(segments, Strip { count }, days_of(days));
