@@ -1,4 +1,4 @@
-//! Links target/staticlib/libgustbook.a of the repository: what `rt lib` makes of crates/gustbook_c.
+//! Links the library that `wrapper/build-library` leaves in the repository's target folder.
 fn main() {
     let here = std::env::var("CARGO_MANIFEST_DIR").expect("cargo sets it");
     println!("cargo:rustc-link-search=native={here}/../target/staticlib");
