@@ -1,4 +1,4 @@
-/* The gust book's calls. Build the library with `rt staticlib gustbook` and link target/staticlib/libgustbook.a.
+/* The gust book's calls. Build the library with `wrapper/build-library` and link target/staticlib/libgustbook.a.
  *
  * All memory is the caller's. A book is a table of 16-bit words, 170 a page, 1 to 4,096 pages, and a small record.
  * Each call returns 0, or the number of the refusal; a refusal changes nothing (but see gust_load).

@@ -303,7 +303,7 @@ const KINDS: [&str; 10] = [
 
 fn main() {
     if !Path::new(PROVED).exists() {
-        eprintln!("target/bin/gust is not there: 'rt check gust' builds it.");
+        eprintln!("target/bin/gust is not there: './gust' builds it.");
         std::process::exit(1);
     }
     at_once();
