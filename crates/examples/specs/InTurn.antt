@@ -15,7 +15,8 @@ use Rattle.wellformed.specs.Parts.{parts}
 use Rattle.wellformed.specs.WellFormed.{most_accepted, well_formed}
 use Rattle.rules.specs.Examples.{Report, Run, run as in_turn}
 use Rattle.rules.specs.Record.{Called, refusal, record_into}
-use Rattle.rules.specs.RecordLaws.{not_refused, answered_law, record_law}
+use Rattle.rules.specs.RecordLaws.{not_refused, answered_law}
+use Rattle.rules.proofs.RecordLaws.{record_law}
 use Rattle.rules.specs.Recording.{recorded}
 use Rattle.index.specs.Run.{Call, Call.Record, Book, Moment, turn, run}
 

@@ -25,7 +25,8 @@ use Rattle.wellformed.specs.Parts.{parts}
 use Rattle.wellformed.specs.WellFormed.{held_records, well_formed, walk, leaf_entries, children}
 use Rattle.rules.specs.EmptyBook.{empty_well_formed}
 use Rattle.rules.specs.Record.{first_of, refusal, record_into}
-use Rattle.rules.specs.RecordLaws.{not_refused, refused_law, answered_law, record_law}
+use Rattle.rules.specs.RecordLaws.{not_refused, refused_law, answered_law}
+use Rattle.rules.proofs.RecordLaws.{record_law}
 use Rattle.rules.specs.Recording.{recorded, leaf_entry}
 use Rattle.index.specs.Calls.{Left, unchanged, empty_book, cleared, loaded, loaded_pages, image_refusal, pages_refusal, image_small}
 use Rattle.index.specs.Run.{Call, Call.Clear, Call.Record, Call.Ask, Call.Count, Call.Save, Call.Load, Book, reply_to, held, Moment, turn, run, made, Answers, Good, GoodCall, GoodRun}

@@ -12,12 +12,13 @@ use Rattle.recording.specs.declared.Called as code-called
 use Rattle.recording.specs.declared.Reply as code-reply
 use Rattle.recording.specs.declared.Reply.TheVariants as say
 use Rattle.recording.specs.declared.scan.Sought as code-sought
-use Rattle.rules.specs.Book.{before}
+use Rattle.rules.proofs.Book.{before}
 use Rattle.rules.specs.CameLaws.{Before}
-use Rattle.rules.specs.FromRoot.{root_level}
+use Rattle.rules.proofs.FromRoot.{root_level}
 use Rattle.rules.specs.FromWellFormed.{book}
 use Rattle.rules.specs.Record.{Reply, Reply.Refused, Reply.Answered, Called, refusal, answered, refused, record_into}
-use Rattle.rules.specs.RecordLaws.{Accepted, not_refused, refused_law, answered_law, conditions_of, few}
+use Rattle.rules.specs.RecordLaws.{Accepted, not_refused, refused_law, answered_law, conditions_of}
+use Rattle.rules.proofs.RecordLaws.{few}
 use Rattle.rules.specs.Recording.{recorded, from_root}
 use Rattle.recording.specs.RecordSteps.{outcome_is, RootLevelFits, SmallIs, Records}
 use Rattle.recording.specs.RootSteps.{LevelFits}

@@ -16,13 +16,13 @@ use Rattle.pages.specs.declared.Small.{Small}
 use Rattle.split.specs.SplitLaws.{weigh}
 use Rattle.wellformed.specs.Parts.{parts, whole}
 use Rattle.wellformed.specs.WellFormed.{page, held_records, well_formed, most_accepted}
-use Rattle.rules.specs.Book.{Book, says_covered, recorded_law}
+use Rattle.rules.specs.Book.{Book, says_covered}
 use Rattle.rules.specs.CameLaws.{kept_if}
 use Rattle.rules.specs.FromWellFormed.{Conditions, book}
 use Rattle.rules.specs.Record.{first_of, refusal, answered, refused, record_into}
 use Rattle.rules.specs.Recording.{Recorded, recorded}
 use Rattle.rules.specs.StrikeLaws.{standing}
-use Rattle.rules.specs.ToWellFormed.{book_held, book_eight, conditions}
+use Rattle.rules.specs.ToWellFormed.{book_eight, conditions}
 use Rattle.rules.specs.Tree.{Sound}
 
 -- the conditions of a table's pages, and back
@@ -123,49 +123,12 @@ pub record RecordLaw (t : List ℕ) (s : Small) (b : Box) (v : ℕ) (r : Recorde
   pub counts : length (held_records r.pages r.small) + r.small.struck + r.small.covered ≡ r.small.accepted
   pub spent : free_count (pages_of t) ≤ free_count r.pages + (s.height + 1)
 
-pub record_law : (t : List ℕ) (s : Small) (b : Box) (v : ℕ) → Accepted t s b v → RecordLaw t s b v (recorded (pages_of t) s b v)
-record_law t s b v a =
-    let ps = pages_of t in
-    let r = recorded ps s b v in
-    let k = book ps s (conditions_of t s a.sound) in
-    let l = recorded_law ps s k b v a.lawful a.passes a.unspent a.room in
-    let o = book_held ps s k in
-    let n = book_held r.pages r.small l.after in
-    record {
-      well_formed_lem = table_well_formed t a.fits r.pages r.small l.after l.same_length;
-      same_length = table_same_length t a.fits r.pages r.small l.after l.same_length;
-      same_pages = table_back t a.fits r.pages r.small l.after l.same_length;
-      answers = λ q e. ap (box_max q) n ∙ l.answers q e ∙ ap (λ (x : List Entry). max (box_max q x) (score q b v)) (sym o);
-      gone = l.gone;
-      counted = l.counted;
-      left = l.left;
-      inside = l.inside;
-      same_records = λ g. let x = l.same g in let y = ap (weigh g) n in let z = ap (weigh g) o in omega arith;
-      counts = let x = l.after.counts in let y = ap length n in omega arith;
-      spent = l.spent;
-    }
-
 -- the struck count and the small record's numbers stay at most 1,000,000
 pub record Few (r : Recorded) : Type 0 where
   pub accepted : r.small.accepted ≤ most_accepted
   pub struck : r.small.struck ≤ most_accepted
   pub covered : r.small.covered ≤ most_accepted
   pub count : r.answer.struck ≤ most_accepted
-
-pub few : (t : List ℕ) (s : Small) (b : Box) (v : ℕ) → Accepted t s b v → Few (recorded (pages_of t) s b v)
-unfolding recorded
-few t s b v a =
-    let ps = pages_of t in
-    let r = recorded ps s b v in
-    let k = book ps s (conditions_of t s a.sound) in
-    let l = recorded_law ps s k b v a.lawful a.passes a.unspent a.room in
-    let x = l.after.few in
-    let y = l.after.counts in
-    let u : r.small.struck ≡ s.struck + r.answer.struck = struck_adds ps s b v in
-    record { accepted = x; struck = omega arith; covered = omega arith; count = omega arith }
-  where
-    struck_adds : (ps : List Page) (s : Small) (b : Box) (v : ℕ) → (recorded ps s b v).small.struck ≡ s.struck + (recorded ps s b v).answer.struck
-    struck_adds ps s b v = refl
 
 -- Rule 7.34: a table of one or two pages takes no record.
 pub small_table_refuses : (t : List ℕ) (s : Small) (b : Box) (v : ℕ) → pages_in t ≤ 2 → refusal t s b v ≡ 0 → ⊥

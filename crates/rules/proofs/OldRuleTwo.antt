@@ -10,14 +10,14 @@ use Rattle.pages.specs.declared.Page.{Page}
 use Rattle.pages.specs.declared.Small.{Small}
 use Rattle.split.specs.Split.{page_from, without}
 use Rattle.wellformed.specs.WellFormed.{page}
-use Rattle.rules.specs.Book.{before}
+use Rattle.rules.proofs.Book.{before}
 use Rattle.rules.specs.CameLaws.{Before, Begun, strike_begun}
 use Rattle.rules.specs.FromWellFormed.{book}
 use Rattle.rules.specs.RecordLaws.{Accepted, conditions_of}
 use Rattle.rules.specs.Recording.{Became.stands, choose, Walked, come_back, go_down, unless_covered, go_on, walk_down, exact_at, leaf_if_empty, from_root, Recorded, put_right, recorded}
 use Rattle.rules.specs.Scan.{Sought, handed_in, scan}
 use Rattle.rules.specs.Strike.{strike_page}
-use Rattle.rules.specs.WalkLaws.{step_down}
+use Rattle.rules.proofs.WalkLaws.{step_down}
 
 -- What a walk handed back: as now, or that the record starts again at the root, with these pages, b as already cut, and the records struck so far.
 pub data OldWalked : Type 0 where

@@ -21,7 +21,7 @@ use Rattle.rules.specs.Scan.{Sought}
 use Rattle.rules.specs.SettleLaws.{handle, alone, Handles}
 use Rattle.rules.specs.Strike.{strike_page}
 use Rattle.rules.specs.Tree.{Sound, level_of}
-use Rattle.rules.specs.WalkLaws.{walk_law}
+use Rattle.rules.proofs.WalkLaws.{walk_law}
 
 -- what has grown, with no more levels than one more
 pub record GrownTo (n v : ℕ) (ps : List Page) (r : ℕ) (s : Sought) (w : Walked) (t : Rooted) : Type 0 where
