@@ -31,7 +31,8 @@ use Rattle.rules.specs.Recording.{choose, leaf_entry, Walked, come_back, append,
 use Rattle.rules.specs.Scan.{Sought, scan}
 use Rattle.rules.specs.Strike.{struck_of, strike_page}
 use Rattle.rules.specs.Tree.{Sound, level_of}
-use Rattle.rules.proofs.WalkLaws.{StepDown, step_down}
+use Rattle.rules.specs.WalkLaws.{StepDown}
+use Rattle.rules.proofs.WalkLaws.{step_down}
 
 -- what striking at a page asks for: a tidy page of the table, and the sieve of a box in which the record lies
 pub record MayStrike (t q : List ℕ) (p : ℕ) (b : Box) : Type 0 where

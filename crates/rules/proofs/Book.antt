@@ -16,7 +16,8 @@ use Rattle.wellformed.specs.WellFormed.{most_accepted}
 use Rattle.rules.specs.CameLaws.{kept, kept_if, Before}
 use Rattle.rules.specs.CollapseLaws.{Collapsed, collapse_law}
 use Rattle.rules.specs.Frame.{root_load, root_records}
-use Rattle.rules.proofs.FromRoot.{GrownTo, root_law}
+use Rattle.rules.specs.FromRoot.{GrownTo}
+use Rattle.rules.proofs.FromRoot.{root_law}
 use Rattle.rules.specs.Moves.{only, Apart}
 use Rattle.rules.specs.Recording.{Walked, Rooted, put_root_right, collapse, from_root, put_right, Recorded, recorded}
 use Rattle.rules.specs.RootLaws.{Grown}

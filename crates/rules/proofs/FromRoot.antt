@@ -15,26 +15,16 @@ use Rattle.rules.specs.CameLaws.{Came, Before, strike_begun, strike_then}
 use Rattle.rules.specs.EmptyRoot.{leaf_begun, leaf_then}
 use Rattle.rules.specs.Frame.{root_load, root_records}
 use Rattle.rules.specs.Moves.{Pages}
-use Rattle.rules.specs.Recording.{Became, Became.stands, Became.split, Walked, Rooted, new_root_at, put_root_right, walk_down, leaf_if_empty, from_root}
+use Rattle.rules.specs.Recording.{Became, Became.stands, Became.split, Walked, new_root_at, put_root_right, walk_down, leaf_if_empty, from_root}
 use Rattle.rules.specs.RootLaws.{Grown, stands_grown, split_root}
 use Rattle.rules.specs.Scan.{Sought}
 use Rattle.rules.specs.SettleLaws.{handle, alone, Handles}
 use Rattle.rules.specs.Strike.{strike_page}
 use Rattle.rules.specs.Tree.{Sound, level_of}
 use Rattle.rules.proofs.WalkLaws.{walk_law}
+use Rattle.rules.specs.FromRoot.{GrownTo, RootCame}
 
 -- what has grown, with no more levels than one more
-pub record GrownTo (n v : ℕ) (ps : List Page) (r : ℕ) (s : Sought) (w : Walked) (t : Rooted) : Type 0 where
-  pub levels : ℕ
-  pub most : levels ≤ suc n
-  pub grown : Grown n v ps r s.box w.struck w.sought t.pages t.root levels
-
--- what came of the root page, with no more levels under it than before
-record RootCame (n v : ℕ) (ps : List Page) (r : ℕ) (s : Sought) (w : Walked) : Type 0 where
-  levels : ℕ
-  few : levels ≤ n
-  came : Came levels v ps r (root_load ps n r) (root_records ps n r) s 0 w
-
 -- a count from 0 on
 from_zero : (m v : ℕ) (ps : List Page) (r : ℕ) (own : Pages) (held : List Entry) (s : Sought) (k : ℕ) (w : Walked) → Came m v ps r own held s k w → Came m v ps r own held s (0 + k) w
 from_zero m v ps r own held s k w c = let z : k ≡ 0 + k = omega arith in subst (λ (j : ℕ). Came m v ps r own held s j w) z c

@@ -1,5 +1,5 @@
 -- The law of the whole walk, by induction on the levels.
-use Rattle.std.specs.Prelude.{Bool, true, false, List, ◌≡◌, refl, ℕ, zero, suc, ◌+◌, ◌≤◌, length}
+use Rattle.std.specs.Prelude.{Bool, true, false, List, ◌≡◌, refl, ℕ, zero, suc, ◌≤◌, length}
 use Rattle.std.proofs.Common.{arith}
 use Rattle.pages.specs.Summary.{in_use}
 use Rattle.pages.specs.declared.Page.{Page}
@@ -9,7 +9,7 @@ use Rattle.rules.specs.IndexLaws.{LowerLaw, chosen, go_down_law, down_before, do
 use Rattle.rules.specs.LeafLaws.{append_law}
 use Rattle.rules.specs.Recording.{Walk, append, go_down, unless_covered, go_on, walk_down}
 use Rattle.rules.specs.Scan.{Sought, scan}
-use Rattle.rules.specs.Strike.{strike_page}
+use Rattle.rules.specs.WalkLaws.{StepDown}
 
 -- covered, or step 4
 on_law : (n v : ℕ) (next : Walk) (ps : List Page) (p : ℕ) (s : Sought) (k : ℕ) → Before n v ps p s
@@ -26,13 +26,6 @@ unfolding walk_down
 walk_law zero v ps p s k b some = on_law zero v (append v) ps p s k b.before (append_law v ps p s k b.before)
 walk_law (suc n) v ps p s k b some =
     on_law (suc n) v (go_down n v (walk_down n v)) ps p s k b.before (λ o. go_down_law n v ps p s b (some (omega arith)) o (walk_down n v) (walk_law n v) k)
-
--- A step down of the walk, as code takes it: the child c stands, step 1 leaves it an entry, and the page is found again as it was.
-pub record StepDown (n v : ℕ) (ps : List Page) (p : ℕ) (s : Sought) (k c : ℕ) : Type 0 where
-  pub before : Before n v ps c s
-  pub begun : Begun n v (strike_page n s.box v ps c).pages c s
-  pub some : 1 ≤ length (in_use (page (strike_page n s.box v ps c).pages c))
-  pub found_again : page (walk_down n v (strike_page n s.box v ps c).pages c s (k + (strike_page n s.box v ps c).records)).pages p ≡ page ps p
 
 pub step_down : (n v : ℕ) (ps : List Page) (p : ℕ) (s : Sought) (k : ℕ) → Begun (suc n) v ps p s → 1 ≤ length (in_use (page ps p)) → (scan (suc n) v (in_use (page ps p)) s).is_covered ≡ false
     → StepDown n v ps p (scan (suc n) v (in_use (page ps p)) s) k (chosen ps p (scan (suc n) v (in_use (page ps p)) s))

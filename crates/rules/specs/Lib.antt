@@ -6,6 +6,7 @@ pub mod Record
 pub mod Examples
 pub mod RecordLaws
 pub mod NeverEmpty
+pub mod OldRuleTwo
 pub mod EmptyBook
 pub mod Lists
 pub mod Score
@@ -20,8 +21,10 @@ pub mod CameLaws
 pub mod LeafLaws
 pub mod ChildLaws
 pub mod IndexLaws
+pub mod WalkLaws
 pub mod RootLaws
 pub mod EmptyRoot
+pub mod FromRoot
 pub mod CollapseLaws
 pub mod Book
 pub mod ReachLaws

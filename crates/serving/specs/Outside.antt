@@ -1,4 +1,4 @@
--- What lies outside every proof: reading and writing. Their contracts say how many bytes were moved, and no more.
+-- What lies outside every proof: reading and writing. Of the standard streams their contracts say how many bytes were moved, and no more.
 use Rattle.std.specs.Prelude.{ℕ, ◌≤◌, List, [], ◌∷◌, ◌++◌, ◌≡◌, Result, Ok, Err, length, take}
 use Rattle.std.specs.Io.{ReadsAtMost, WritesAtMost}
 use Rattle.std.specs.declared.io.Error.{Error}
