@@ -1,6 +1,6 @@
 -- RULES.md, section 5: asking. One definition for every table, spoilt ones too.
 -- The best gust so far is a number: Nothing is 0 and a gust v is v + 1, so that Nothing lies below calm.
-use Rattle.std.specs.Prelude.{ℕ, zero, suc, ◌+◌, max, Bool, true, false, ◌&&◌, ◌||◌, not, cond, List, [], ◌∷◌, leb, ltb, eqb, length}
+use Rattle.std.specs.Prelude.{Option, Some, None, Result, Ok, Err, ℕ, zero, suc, ◌+◌, max, Bool, true, false, ◌&&◌, ◌||◌, not, cond, List, [], ◌∷◌, leb, ltb, eqb, length}
 use Rattle.ground.specs.Boxes.{touches, covers, legal}
 use Rattle.ground.specs.declared.boxes.Box.{Box}
 use Rattle.pages.specs.Layout.{page_entries, table_fits, pages_of}
@@ -10,7 +10,9 @@ use Rattle.pages.specs.declared.Entry.{Entry}
 use Rattle.pages.specs.declared.Page.{Page}
 use Rattle.wellformed.specs.WellFormed.{page}
 use Rattle.asking.specs.declared.Asked.{Asked}
-use Rattle.asking.specs.declared.Asked.TheVariants.{Refused, Nothing, Gust}
+use Rattle.ground.specs.declared.refusals.Refusal.{Refusal}
+use Rattle.ground.specs.declared.refusals.Refusal.TheVariants as no
+use Rattle.ground.specs.Refusals.{number}
 use Rattle.asking.specs.declared.search.Step.{Step}
 use Rattle.asking.specs.declared.search.Step.TheVariants.{Pass, Raise, Open}
 
@@ -86,14 +88,14 @@ unfoldable pub search_book : List Page → Small → Box → Search
 search_book ps s q = search_page ps q s.height (least_root s.height) s.root 0 0
 
 -- Rules 5.13, 1.22, 7.4: the answer is the best gust or Nothing, and the pages opened; or refusal 4.
-unfoldable pub answered : Search → Asked
-answered refused = Refused 4
-answered (found zero pages) = Nothing pages
-answered (found (suc gust) pages) = Gust gust pages
+unfoldable pub answered : Search → Result Asked Refusal
+answered refused = Err no.Damaged
+answered (found zero pages) = Ok (record { gust = None; pages = pages })
+answered (found (suc gust) pages) = Ok (record { gust = Some gust; pages = pages })
 
 -- Rule 7.22: refusals 1, 2 and 4, in this order.
-unfoldable pub asked : List ℕ → Small → Box → Asked
-asked t s q = cond (table_fits t) (cond (legal q) (answered (search_book (pages_of t) s q)) (Refused 2)) (Refused 1)
+unfoldable pub asked : List ℕ → Small → Box → Result Asked Refusal
+asked t s q = cond (table_fits t) (cond (legal q) (answered (search_book (pages_of t) s q)) (Err no.Box)) (Err no.Table)
 
 -- Rules 5.13, 7.31: what each case of the answer says, in numbers: the refusal (0 is none), the best gust (Nothing is 0, a gust v is v + 1), the pages opened.
 pub record Said : Type 0 where
@@ -101,10 +103,13 @@ pub record Said : Type 0 where
   pub best : ℕ
   pub pages : ℕ
 
-abbrev pub says : Asked → Said
-says (Refused number) = record { refusal = number; best = 0; pages = 0 }
-says (Nothing pages) = record { refusal = 0; best = 0; pages = pages }
-says (Gust gust pages) = record { refusal = 0; best = gust + 1; pages = pages }
+abbrev pub best_of : Option ℕ → ℕ
+best_of None = 0
+best_of (Some gust) = gust + 1
+
+abbrev pub says : Result Asked Refusal → Said
+says (Err refusal) = record { refusal = number refusal; best = 0; pages = 0 }
+says (Ok asked) = record { refusal = 0; best = best_of asked.gust; pages = asked.pages }
 
 abbrev pub refused_by : ℕ → Said
 refused_by number = record { refusal = number; best = 0; pages = 0 }

@@ -3,11 +3,10 @@ use Prim.Native.Nat.{ℕ, zero, suc, ◌+◌, ◌≤◌}
 use Rattle.std.specs.Prelude.{Bool, cond, ◌≡◌, refl, length}
 use Rattle.std.proofs.Math.Bool.{true, false}
 use mathlib.Core.List.{List, [], ◌∷◌}
-use Rattle.std.proofs.Common.{subst, arith}
+use Rattle.std.proofs.Common.{arith}
 use Rattle.ground.specs.Boxes.{legal}
 use Rattle.ground.specs.declared.boxes.Box.{Box}
-use Rattle.pages.specs.Layout.{most_pages, pages_in, table_fits, pages_of}
-use Rattle.pages.specs.Facts.{fitting}
+use Rattle.pages.specs.Layout.{pages_in, table_fits, pages_of}
 use Rattle.pages.specs.LayoutLaws.{pages_length}
 use Rattle.pages.specs.Summary.{in_use}
 use Rattle.pages.specs.declared.Entry.{Entry}
@@ -15,9 +14,9 @@ use Rattle.pages.specs.declared.Page.{Page}
 use Rattle.pages.specs.declared.Small.{Small}
 use Rattle.wellformed.specs.WellFormed.{page}
 use Rattle.asking.specs.Asking.{Search, refused, found, step, follow, search_entry, search_record, search_one, in_order, may_open, search_opened, search_page, least_root, search_book, answered, asked, says}
-use Rattle.asking.specs.Seen.{most_best, seen_as}
-use Rattle.asking.specs.Turns.{may_opened, seen_found}
-use Rattle.asking.specs.declared.Asked.TheVariants.{Refused}
+use Rattle.asking.specs.Turns.{may_opened}
+use Rattle.std.specs.Prelude.{Err}
+use Rattle.ground.specs.declared.refusals.Refusal.TheVariants as no
 use Rattle.asking.specs.declared.search.Step.{Step}
 use Rattle.asking.specs.declared.search.Step.TheVariants.{Pass, Raise, Open}
 
@@ -58,22 +57,6 @@ page_most ps q (suc n) least p best opened w =
     (one_most (length ps) (search_page ps q n 1) (λ c b o. page_most ps q n 1 c b o) q n)
     (λ e. let h = may_opened ps (suc n) least p opened e in omega arith)
 
-at_most_grows : (m n : ℕ) (s : Search) → m ≤ n → AtMost m s → AtMost n s
-at_most_grows m n refused l w = tt
-at_most_grows m n (found best opened) l w = omega arith
-
--- what the code hands to the answer
-pub book_most : (t : List ℕ) (s : Small) (q : Box) (r : Search) → table_fits t ≡ true → r ≡ search_book (pages_of t) s q → AtMost most_pages r
-unfolding search_book
-book_most t s q r e p =
-    let f = fitting t e in
-    let l = pages_length t in
-    rw p (at_most_grows (length (pages_of t)) most_pages (search_page (pages_of t) q s.height (least_root s.height) s.root 0 0) (omega arith)
-    (page_most (pages_of t) q s.height (least_root s.height) s.root 0 0 (omega arith)))
-
-pub few_opened : (best opened : ℕ) → AtMost most_pages (seen_as best opened) → best ≤ most_best → opened ≤ most_pages
-few_opened best opened h l = subst (AtMost most_pages) (seen_found best opened l) h
-
 answered_most : (m : ℕ) (s : Search) → AtMost m s → (says (answered s)).pages ≤ m
 unfolding answered
 answered_most m refused w = omega arith
@@ -91,10 +74,10 @@ pages_most t s q = by_table (table_fits t)
         let h = answered_most (length (pages_of t)) (search_page (pages_of t) q s.height (least_root s.height) s.root 0 0) (page_most (pages_of t) q s.height (least_root s.height) s.root 0 0 (omega arith)) in
         omega arith
 
-    by_box : (b : Bool) → (says (cond b (answered (search_book (pages_of t) s q)) (Refused 2))).pages ≤ pages_in t
+    by_box : (b : Bool) → (says (cond b (answered (search_book (pages_of t) s q)) (Err no.Box))).pages ≤ pages_in t
     by_box true = searched
     by_box false = omega arith
 
-    by_table : (b : Bool) → (says (cond b (cond (legal q) (answered (search_book (pages_of t) s q)) (Refused 2)) (Refused 1))).pages ≤ pages_in t
+    by_table : (b : Bool) → (says (cond b (cond (legal q) (answered (search_book (pages_of t) s q)) (Err no.Box)) (Err no.Table))).pages ≤ pages_in t
     by_table true = by_box (legal q)
     by_table false = omega arith

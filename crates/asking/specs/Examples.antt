@@ -8,7 +8,8 @@ use Rattle.pages.specs.declared.Small.{Small}
 use Rattle.pages.specs.declared.Entry.{Entry}
 use Rattle.pages.specs.declared.Page.{Page}
 use Rattle.asking.specs.Asking.{raised, step, follow, search_entry, search_record, search_one, in_order, may_open, search_opened, search_page, search_book, answered, asked}
-use Rattle.asking.specs.declared.Asked.TheVariants.{Refused, Nothing, Gust}
+use Rattle.std.specs.Prelude.{Some, None, Ok, Err}
+use Rattle.ground.specs.declared.refusals.Refusal.TheVariants as no
 
 abbrev to : ℕ → ℕ → Range
 to a b = record { low = a; high = b }
@@ -34,27 +35,27 @@ abbrev one_record : List ℕ
 one_record = book_with (page_with 1 (held (over (to 10 19) (to 10 19) (to 7_305 7_314)) 250 ∷ []) ∷ [])
 
 -- Rule 9.1, P: ask 19 25 19 25 1900-01-10 1900-02-01 gives gust 250, pages 1
-pub corner : asked one_record (small 0 1 1) (over (to 19 25) (to 19 25) (to 7_314 7_336)) ≡ Gust 250 1
+pub corner : asked one_record (small 0 1 1) (over (to 19 25) (to 19 25) (to 7_314 7_336)) ≡ Ok (record { gust = Some 250; pages = 1 })
 unfolding asked search_book search_page search_opened search_one search_record raised in_order may_open answered legal touches table_of pages_of cut_pages page_of entries_of entry_at box_at words_of_page words_of_entries words_of_entry words_of_box
 corner = refl
 
 -- Rule 9.1, P: ask 20 25 10 19 1900-01-01 1900-01-10 gives nothing, pages 1
-pub beside : asked one_record (small 0 1 1) (over (to 20 25) (to 10 19) (to 7_305 7_314)) ≡ Nothing 1
+pub beside : asked one_record (small 0 1 1) (over (to 20 25) (to 10 19) (to 7_305 7_314)) ≡ Ok (record { gust = None; pages = 1 })
 unfolding asked search_book search_page search_opened search_one search_record raised in_order may_open answered legal touches table_of pages_of cut_pages page_of entries_of entry_at box_at words_of_page words_of_entries words_of_entry words_of_box
 beside = refl
 
 -- a table that is no book, a box that is none, and a page that points at itself are refused
-pub no_table : asked (0 ∷ []) (small 0 1 0) (over (to 0 0) (to 0 0) (to 0 0)) ≡ Refused 1
+pub no_table : asked (0 ∷ []) (small 0 1 0) (over (to 0 0) (to 0 0) (to 0 0)) ≡ Err no.Table
 unfolding asked search_book search_page search_opened search_one search_record raised in_order may_open answered legal touches pages_of cut_pages
 no_table = refl
 
-pub no_box : asked one_record (small 0 1 1) (over (to 5 4) (to 0 0) (to 0 0)) ≡ Refused 2
+pub no_box : asked one_record (small 0 1 1) (over (to 5 4) (to 0 0) (to 0 0)) ≡ Err no.Box
 unfolding asked search_book search_page search_opened search_one search_record raised in_order may_open answered legal touches table_of pages_of cut_pages page_of entries_of entry_at box_at words_of_page words_of_entries words_of_entry words_of_box
 no_box = refl
 
 abbrev at_itself : List ℕ
 at_itself = book_with (page_with 2 (record { place = over (to 0 9) (to 0 0) (to 0 0); gust = 5; weakest = 5; child = 0; strongest = over (to 9 9) (to 0 0) (to 0 0); union = zero_box } ∷ []) ∷ [])
 
-pub points_at_itself : asked at_itself (small 0 2 1) (over (to 0 0) (to 0 0) (to 0 0)) ≡ Refused 4
+pub points_at_itself : asked at_itself (small 0 2 1) (over (to 0 0) (to 0 0) (to 0 0)) ≡ Err no.Damaged
 unfolding asked search_book search_page search_opened search_one search_record search_entry raised step follow in_order may_open answered legal touches covers table_of pages_of cut_pages page_of entries_of entry_at box_at words_of_page words_of_entries words_of_entry words_of_box
 points_at_itself = refl

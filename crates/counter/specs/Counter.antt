@@ -1,13 +1,13 @@
 -- RULES.md, section 8: every line is answered by the book, and the answers are printed in order.
-use Rattle.std.specs.Prelude.{ℕ, zero, suc, ◌+◌, Bool, true, false, List, [], ◌∷◌, ◌++◌, eqb, take}
+use Rattle.std.specs.Prelude.{ℕ, zero, suc, ◌+◌, Bool, true, false, List, [], ◌∷◌, ◌++◌, eqb, take, Option, Some, None, Result, Ok, Err}
 use Rattle.asking.specs.Asking.{asked}
 use Rattle.asking.specs.declared.Asked.{Asked}
-use Rattle.asking.specs.declared.Asked.TheVariants as ask
+use Rattle.ground.specs.Refusals.{number}
+use Rattle.ground.specs.declared.refusals.Refusal.{Refusal}
 use Rattle.index.specs.Calls.{counted}
 use Rattle.index.specs.Run.{Call, Call.Record, Call.Ask, Call.Count, Book, after}
-use Rattle.index.specs.declared.Counted.{Counted}
-use Rattle.index.specs.declared.Counted.TheVariants as count
-use Rattle.lines.specs.Lines.{parsed, longest_line, line_refusal}
+use Rattle.index.specs.declared.Counts.{Counts}
+use Rattle.lines.specs.Lines.{parsed, longest_line}
 use Rattle.wide.specs.Wide.{as_given}
 use Rattle.lines.specs.Printing.{printed}
 use Rattle.lines.specs.declared.printing.Answer.{Answer}
@@ -18,40 +18,43 @@ use Rattle.rules.specs.Record.{Reply, Reply.Refused, Reply.Answered, record_into
 use Rattle.rules.specs.Recording.{Outcome, Outcome.Kept, Outcome.Cut, Outcome.Covered}
 
 -- Rules 8.7, 8.8, 8.9, 8.11: the call that a line is, with the numbers as they were typed. A line of none of the forms is no call.
-unfoldable pub calls_of : Line → List Call
-calls_of (typed.Add b v) = Record (as_given b) v ∷ []
-calls_of (typed.Ask q) = Ask (as_given q) ∷ []
-calls_of typed.Count = Count ∷ []
-calls_of typed.Refused = []
+unfoldable pub calls_of : Result Line Refusal → List Call
+calls_of (Ok (typed.Add b v)) = Record (as_given b) v ∷ []
+calls_of (Ok (typed.Ask q)) = Ask (as_given q) ∷ []
+calls_of (Ok typed.Count) = Count ∷ []
+calls_of (Err refusal) = []
 
--- Rule 8.21: what the book's answers are called when they are printed. Refusals are printed alike.
+-- Rule 8.21: what the book's answers are called when they are printed. Refusals are printed alike, by their numbers.
 unfoldable pub outcome_says : Outcome → ℕ → Answer
 outcome_says Kept struck = told.Kept struck
 outcome_says Cut struck = told.Cut struck
 outcome_says Covered struck = told.Covered struck
 
 -- Rules 8.21, 8.24.
-unfoldable pub record_says : Reply → Answer
-record_says (Refused n) = told.Refused n
-record_says (Answered a) = outcome_says a.outcome a.struck
+unfoldable pub record_says : Reply → Result Answer ℕ
+record_says (Refused n) = Err n
+record_says (Answered a) = Ok (outcome_says a.outcome a.struck)
 
 -- Rules 8.22, 8.24.
-unfoldable pub ask_says : Asked → Answer
-ask_says (ask.Refused n) = told.Refused n
-ask_says (ask.Nothing pages) = told.Nothing pages
-ask_says (ask.Gust gust pages) = told.Gust gust pages
+unfoldable pub gust_says : Option ℕ → ℕ → Answer
+gust_says None pages = told.Nothing pages
+gust_says (Some gust) pages = told.Gust gust pages
+
+unfoldable pub ask_says : Result Asked Refusal → Result Answer ℕ
+ask_says (Err refusal) = Err (number refusal)
+ask_says (Ok asked) = Ok (gust_says asked.gust asked.pages)
 
 -- Rules 8.23, 8.24.
-unfoldable pub count_says : Counted → Answer
-count_says (count.Refused n) = told.Refused n
-count_says (count.Counts accepted held struck covered) = told.Counts accepted held struck covered
+unfoldable pub count_says : Result Counts Refusal → Result Answer ℕ
+count_says (Err refusal) = Err (number refusal)
+count_says (Ok n) = Ok (told.Counts n.accepted n.held n.struck n.covered)
 
 -- Rules 8.10, 7.9: the answer to a line on a book; a line of none of the forms is refused by 9.
-unfoldable pub answer_to : Line → Book → Answer
-answer_to (typed.Add b v) k = record_says (record_into k.table k.small (as_given b) v).reply
-answer_to (typed.Ask q) k = ask_says (asked k.table k.small (as_given q))
-answer_to typed.Count k = count_says (counted k.table k.small)
-answer_to typed.Refused k = told.Refused line_refusal
+unfoldable pub answer_to : Result Line Refusal → Book → Result Answer ℕ
+answer_to (Ok (typed.Add b v)) k = record_says (record_into k.table k.small (as_given b) v).reply
+answer_to (Ok (typed.Ask q)) k = ask_says (asked k.table k.small (as_given q))
+answer_to (Ok typed.Count) k = count_says (counted k.table k.small)
+answer_to (Err refusal) k = Err (number refusal)
 
 -- What is printed to a question whose box-max over a list of records is known: 0 is nothing, v + 1 a gust v.
 unfoldable pub box_max_says : ℕ → ℕ → Answer
@@ -63,7 +66,7 @@ unfoldable pub after_all : List Call → Book → Book
 after_all [] k = k
 after_all (c ∷ cs) k = after_all cs (after c k)
 
-abbrev pub book_after : Line → Book → Book
+abbrev pub book_after : Result Line Refusal → Book → Book
 book_after l k = after_all (calls_of l) k
 
 -- Rule 8.2: the whole input, line by line. A line ends with byte 10, which the last may lack.

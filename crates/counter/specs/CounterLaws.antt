@@ -1,12 +1,14 @@
 -- What the bytes come to: chunks of any cut, and the whole output line by line.
-use Rattle.std.specs.Prelude.{ℕ, zero, suc, ◌+◌, ◌≤◌, ◌<◌, Bool, true, false, cond, List, [], ◌∷◌, ◌++◌, ◌↔◌, ◌≡◌, refl, eqb, length}
+use Rattle.std.specs.Prelude.{ℕ, zero, suc, ◌+◌, ◌≤◌, ◌<◌, Bool, true, false, cond, List, [], ◌∷◌, ◌++◌, ◌↔◌, ◌≡◌, refl, eqb, length, Result, Ok, Err}
 use Rattle.std.proofs.Common.{append_assoc, append-nil, ⊎_elim, sym, ap, ◌∙◌, subst, add-one, arith, length-take, take_all, take-take}
 use Rattle.std.proofs.lemmas.List.{take-append-le}
 use Rattle.asking.specs.Asking.{Search, Search.refused, Search.found, search_book, answered, asked, says}
 use Rattle.asking.specs.BoxMax.{box_max}
 use Rattle.asking.specs.ExactEntries.{All}
 use Rattle.asking.specs.declared.Asked.{Asked}
-use Rattle.asking.specs.declared.Asked.TheVariants as ask
+use Rattle.ground.specs.Refusals.{not_none}
+use Rattle.ground.specs.declared.refusals.Refusal.{Refusal}
+use Rattle.ground.specs.declared.refusals.Refusal.TheVariants as no
 use Rattle.ground.specs.Boxes.{touches, legal}
 use Rattle.ground.specs.Tests.{below_or_not}
 use Rattle.ground.specs.declared.boxes.Box.{Box}
@@ -23,7 +25,7 @@ use Rattle.pages.specs.declared.Small.{Small}
 use Rattle.wellformed.specs.WellFormed.{well_formed}
 use Rattle.wide.specs.Wide.{as_given}
 use Rattle.wide.specs.declared.WideBox.{WideBox}
-use Rattle.counter.specs.Counter.{calls_of, ask_says, answer_to, box_max_says, after_all, book_after, line_end, with_byte, lines_of, served, book_served, calls_in, Counter, opening, kept, ended, longer, by_byte, fed, finished_by, finished, written, whole, left_by, answers_to, all_written}
+use Rattle.counter.specs.Counter.{calls_of, gust_says, ask_says, answer_to, box_max_says, after_all, book_after, line_end, with_byte, lines_of, served, book_served, calls_in, Counter, opening, kept, ended, longer, by_byte, fed, finished_by, finished, written, whole, left_by, answers_to, all_written}
 
 -- However the input is cut, its chunks come to the whole.
 pub fed_append : (xs ys : List ℕ) (c : Counter) → fed (xs ++ ys) c ≡ fed ys (fed xs c)
@@ -181,27 +183,27 @@ served_calls [] k = refl
 served_calls (l ∷ ls) k = served_calls ls (book_after (parsed l) k) ∙ sym (after_append (calls_of (parsed l)) (calls_in ls) k)
 
 -- a question that is not refused is answered by its box-max
-Answered : Asked → Type 0
-Answered a = (says a).refusal ≡ 0 → ask_says a ≡ box_max_says (says a).best (says a).pages
+Answered : Result Asked Refusal → Type 0
+Answered a = (says a).refusal ≡ 0 → ask_says a ≡ Ok (box_max_says (says a).best (says a).pages)
 
 asked_answered : (t : List ℕ) (s : Small) (q : Box) → Answered (asked t s q)
-unfolding Answered asked answered ask_says box_max_says
+unfolding Answered asked answered ask_says gust_says box_max_says
 asked_answered t s q = by_tests (table_fits t) (legal q) (search_book (pages_of t) s q)
   where
     by_search : (x : Search) → Answered (answered x)
-    by_search refused e = absurd (omega arith)
+    by_search refused e = absurd (not_none no.Damaged e)
     by_search (found zero pages) e = refl
-    by_search (found (suc gust) pages) e = ap (λ (n : ℕ). box_max_says n pages) (sym (add-one gust))
+    by_search (found (suc gust) pages) e = ap (λ (n : ℕ). Ok (box_max_says n pages)) (sym (add-one gust))
 
-    by_tests : (b c : Bool) (x : Search) → Answered (cond b (cond c (answered x) (ask.Refused 2)) (ask.Refused 1))
-    by_tests false c x e = absurd (omega arith)
-    by_tests true false x e = absurd (omega arith)
+    by_tests : (b c : Bool) (x : Search) → Answered (cond b (cond c (answered x) (Err no.Box)) (Err no.Table))
+    by_tests false c x e = absurd (not_none no.Table e)
+    by_tests true false x e = absurd (not_none no.Box e)
     by_tests true true x e = by_search x e
 
 -- A legal question at a moment of a run is answered by the box-max over the full list: the strongest gust of all records typed and accepted before it that touch it, or nothing, exactly if none does.
 pub record FullList (q : WideBox) (m : Moment) : Type 0 where
   pub pages : ℕ
-  pub says_best : answer_to (typed.Ask q) m.book ≡ box_max_says (box_max (as_given q) m.list) pages
+  pub says_best : answer_to (Ok (typed.Ask q)) m.book ≡ Ok (box_max_says (box_max (as_given q) m.list) pages)
   pub nothing : (box_max (as_given q) m.list ≡ 0) ↔ All (λ e. touches (as_given q) e.place ≡ false) m.list
 
 full_list : (q : WideBox) (m : Moment) → Good m → legal (as_given q) ≡ true → FullList q m
@@ -211,7 +213,7 @@ full_list q m g lawful =
     let a = asked m.book.table m.book.small (as_given q) in
     record {
       pages = (says a).pages;
-      says_best = asked_answered m.book.table m.book.small (as_given q) h.never_refused ∙ ap (λ (n : ℕ). box_max_says n (says a).pages) h.best;
+      says_best = asked_answered m.book.table m.book.small (as_given q) h.never_refused ∙ ap (λ (n : ℕ). Ok (box_max_says n (says a).pages)) h.best;
       nothing = (λ e. h.nothing.0 (h.best ∙ e), λ n. sym h.best ∙ h.nothing.1 n);
     }
 
@@ -220,7 +222,7 @@ full_list q m g lawful =
 pub record LineGood (before : List (List ℕ)) (l : List ℕ) (later : List (List ℕ)) (k : Book) (m : Moment) : Type 0 where
   pub stands : served (before ++ (l ∷ later)) k ≡ served before k ++ (printed (answer_to (parsed l) m.book) ++ served later (book_after (parsed l) m.book))
   pub good : Good m
-  pub question : (q : WideBox) → parsed l ≡ typed.Ask q → legal (as_given q) ≡ true → FullList q m
+  pub question : (q : WideBox) → parsed l ≡ Ok (typed.Ask q) → legal (as_given q) ≡ true → FullList q m
 
 served_append : (before later : List (List ℕ)) (k : Book) → served (before ++ later) k ≡ served before k ++ served later (book_served before k)
 unfolding served book_served
@@ -264,6 +266,6 @@ lines_good input t e = (
 )
 
 -- a line leaves a well-formed book well-formed
-pub line_sound : (l : Line) (k : Book) → well_formed k.table k.small ≡ true → well_formed (book_after l k).table (book_after l k).small ≡ true
+pub line_sound : (l : Result Line Refusal) (k : Book) → well_formed k.table k.small ≡ true → well_formed (book_after l k).table (book_after l k).small ≡ true
 line_sound l k w =
     subst (λ (x : Book). well_formed x.table x.small ≡ true) (run_book (calls_of l) (record { book = k; list = held k })) (any_run (calls_of l) k w).last.well_formed_lem

@@ -1,4 +1,4 @@
--- What the counter's functions promise settles their result: two that a promise allows are equal, every word of the table, every byte of line and buffer, and the state.
+-- What the counter's functions promise settles their result: two that a promise allows are equal, every word of the table, every byte of the buffer, and the state.
 use Rattle.std.specs.Prelude.{ℕ, List, ◌≡◌}
 use Rattle.std.proofs.Common.{sym, ap, ◌∙◌}
 use Rattle.index.specs.Run.{Book}
@@ -6,30 +6,20 @@ use Rattle.counter.specs.Counter.{Counter, fed, finished}
 use Rattle.counter.specs.FeedSteps.{counter_of, Shows, Opens}
 use Rattle.counter.specs.declared.State.{State}
 
-same_shown :
-    (x : Counter) (first t u line next out buffer : List ℕ) (s r : State) → Shows x first t line out s → Shows x first u next buffer r
-    → (t ≡ u) × (line ≡ next) × (out ≡ buffer) × (s ≡ r)
-same_shown x first t u line next out buffer s r a b =
+same_shown : (x : Counter) (first t u out buffer : List ℕ) (s r : State) → Shows x first t out s → Shows x first u buffer r → (t ≡ u) × (out ≡ buffer) × (s ≡ r)
+same_shown x first t u out buffer s r a b =
     let books = a.book ∙ sym b.book in
     let small = ap (λ (k : Book). k.small) books in
-    let held = a.held ∙ sym b.held in
-    let past = a.past ∙ sym b.past in (
-      ap (λ (k : Book). k.table) books,
-      a.line_is ∙ sym b.line_is,
-      a.buffer ∙ sym b.buffer,
-      (λ i. record { small = small i; held = held i; printed = past i }),
-    )
+    let line = a.line ∙ sym b.line in
+    let past = a.past ∙ sym b.past in
+    (ap (λ (k : Book). k.table) books, a.buffer ∙ sym b.buffer, (λ i. record { small = small i; line = line i; printed = past i }))
 
-module _ (t line out : List ℕ) (s : State) (u w next after buffer bytes : List ℕ) (r q : State) where
-  pub feed_settled :
-      (input : List ℕ) → Shows (fed input (counter_of t line out s)) out u next buffer r → Shows (fed input (counter_of t line out s)) out w after bytes q
-      → (u ≡ w) × (next ≡ after) × (buffer ≡ bytes) × (r ≡ q)
-  feed_settled input = same_shown (fed input (counter_of t line out s)) out u w next after buffer bytes r q
+module _ (t out : List ℕ) (s : State) (u w buffer bytes : List ℕ) (r q : State) where
+  pub feed_settled : (input : List ℕ) → Shows (fed input (counter_of t out s)) out u buffer r → Shows (fed input (counter_of t out s)) out w bytes q → (u ≡ w) × (buffer ≡ bytes) × (r ≡ q)
+  feed_settled input = same_shown (fed input (counter_of t out s)) out u w buffer bytes r q
 
-  pub finish_settled :
-      Shows (finished (counter_of t line out s)) out u next buffer r → Shows (finished (counter_of t line out s)) out w after bytes q
-      → (u ≡ w) × (next ≡ after) × (buffer ≡ bytes) × (r ≡ q)
-  finish_settled = same_shown (finished (counter_of t line out s)) out u w next after buffer bytes r q
+  pub finish_settled : Shows (finished (counter_of t out s)) out u buffer r → Shows (finished (counter_of t out s)) out w bytes q → (u ≡ w) × (buffer ≡ bytes) × (r ≡ q)
+  finish_settled = same_shown (finished (counter_of t out s)) out u w buffer bytes r q
 
 pub open_settled : (t u w : List ℕ) (s r : State) → Opens t u s → Opens t w r → (u ≡ w) × (s ≡ r)
 open_settled t u w s r a b = (a.table ∙ sym b.table, a.state ∙ sym b.state)

@@ -5,7 +5,8 @@ use mathlib.Core.List.{List, [], ◌∷◌, flat_map, map}
 use Rattle.std.proofs.Common.{ap, ◌∙◌}
 use Rattle.asking.specs.Asking.{asked, raised, step, follow, search_entry, search_record, search_one, in_order, may_open, search_opened, search_page, search_book, answered as asked_by}
 use Rattle.asking.specs.declared.Asked.{Asked}
-use Rattle.asking.specs.declared.Asked.TheVariants.{Nothing, Gust}
+use Rattle.ground.specs.declared.refusals.Refusal.{Refusal}
+use Rattle.std.specs.Prelude.{Result, Ok, Some, None}
 use Rattle.ground.specs.Boxes.{join, size, covers, touches, legal}
 use Rattle.ground.specs.Cutting.{cut, cuts_on, covers_one_end, left, left_on}
 use Rattle.ground.specs.declared.boxes.Box.{Box}
@@ -60,9 +61,9 @@ pub record Transcript : Type 0 where
   -- add 10 19 10 19 1900-01-01 1900-01-10 250: kept struck 0
   pub line_1 : record_into (table []) empty_small (over 10 19 10 19 7_305 7_314) 250 ≡ says Kept 0 one (small 1 0 0)
   -- ask 19 25 19 25 1900-01-10 1900-02-01: gust 250 pages 1
-  pub line_2 : asked (table one) (small 1 0 0) (over 19 25 19 25 7_314 7_336) ≡ Gust 250 1
+  pub line_2 : asked (table one) (small 1 0 0) (over 19 25 19 25 7_314 7_336) ≡ Ok (record { gust = Some 250; pages = 1 })
   -- ask 20 25 10 19 1900-01-01 1900-01-10: nothing pages 1
-  pub line_3 : asked (table one) (small 1 0 0) (over 20 25 10 19 7_305 7_314) ≡ Nothing 1
+  pub line_3 : asked (table one) (small 1 0 0) (over 20 25 10 19 7_305 7_314) ≡ Ok (record { gust = None; pages = 1 })
   -- add 10 29 10 19 1900-01-01 1900-01-10 250: kept struck 1
   pub line_4 : record_into (table one) (small 1 0 0) (over 10 29 10 19 7_305 7_314) 250 ≡ says Kept 1 wider (small 2 1 0)
   -- add 15 35 10 19 1900-01-01 1900-01-10 250: cut struck 0
@@ -130,13 +131,13 @@ nine_in_a_row =
     ∙ ap book_of nine_by_the_rules
 
 -- Rule 9.7: asking there, east 75 to 79, gives nothing, 2 pages; 45 to 65 gives 100, 2 pages.
-abbrev ask_in : Box → Book → Asked
+abbrev ask_in : Box → Book → Result Asked Refusal
 ask_in q k = asked k.table k.small q
 
-pub between : ask_in (over 75 79 0 0 0 0) nine ≡ Nothing 2
+pub between : ask_in (over 75 79 0 0 0 0) nine ≡ Ok (record { gust = None; pages = 2 })
 unfolding asked search_book search_page search_opened search_one search_record search_entry raised step follow in_order may_open asked_by legal touches covers table_of pages_of cut_pages page_of entries_of entry_at box_at words_of_page words_of_entries words_of_entry words_of_box page_from
 between = ap (ask_in (over 75 79 0 0 0 0)) nine_in_a_row
 
-pub across : ask_in (over 45 65 0 0 0 0) nine ≡ Gust 100 2
+pub across : ask_in (over 45 65 0 0 0 0) nine ≡ Ok (record { gust = Some 100; pages = 2 })
 unfolding asked search_book search_page search_opened search_one search_record search_entry raised step follow in_order may_open asked_by legal touches covers table_of pages_of cut_pages page_of entries_of entry_at box_at words_of_page words_of_entries words_of_entry words_of_box page_from
 across = ap (ask_in (over 45 65 0 0 0 0)) nine_in_a_row

@@ -11,7 +11,7 @@ use Rattle.ground.specs.Dates.{first_year, last_year, last_date, leap, length_of
 use Rattle.ground.specs.Sums.{total, total_step, total_within}
 use Rattle.ground.specs.Tests.{both, three, joint, joint_three, either, same_test, below_or_not}
 use Rattle.ground.specs.declared.dates.Date.{Date}
-use Rattle.ground.specs.declared.dates.DayNumber.TheVariants.{Day, NoSuchDate}
+use Rattle.std.specs.Prelude.{Some, None}
 
 -- the length of a month, as it is looked up
 module _ (y m : ℕ) where
@@ -112,7 +112,7 @@ unfolding days_before_month total
 months_end y m k p q = let e : m - 1 ≡ k - 1 = omega arith in rw e
 
 -- the day limit is the number of the calendar's last date, and all years together have one day more
-pub limit_is_last : day_of last_date ≡ Day day_limit
+pub limit_is_last : day_of last_date ≡ Some day_limit
 unfolding day_of is_date length_of_month day_number days_before_year days_before_month length_of_year total
 limit_is_last = refl
 
@@ -184,14 +184,14 @@ every_number n p =
     dated_after n y.term m.term day y.inside m.inside (omega (arith, m.start, m.end)) (omega (arith, y.start, m.start))
 
 -- the rule, as it is computed from the days before the year (u) and the month (v)
-pub day_lacks : (d : Date) → not (is_date d) ≡ true → NoSuchDate ≡ day_of d
+pub day_lacks : (d : Date) → not (is_date d) ≡ true → None ≡ day_of d
 unfolding day_of
 day_lacks d e = rw (not-true (is_date d) e)
 
 pub record Counted (d : Date) (u v : ℕ) : Type 0 where
   pub start : 1 ≤ d.day
   pub most : u + v + (d.day - 1) ≤ day_limit
-  pub is : Day (u + v + (d.day - 1)) ≡ day_of d
+  pub is : Some (u + v + (d.day - 1)) ≡ day_of d
 
 pub counted : (d : Date) (u v : ℕ) → not (is_date d) ≡ false → u ≡ days_before_year d.year → v ≡ days_before_month d.year d.month → Counted d u v
 unfolding day_of day_number

@@ -1,9 +1,7 @@
 -- The calendar. Day 0 is 1880-01-01; the last day is 2039-12-31.
-use Rattle.std.specs.Prelude.{ℕ, ◌+◌, ◌-◌, ◌%◌, Bool, true, false, ◌&&◌, ◌||◌, not, cond, List, [], ◌∷◌, leb, ltb, eqb, get_or}
+use Rattle.std.specs.Prelude.{Option, Some, None, ℕ, ◌+◌, ◌-◌, ◌%◌, Bool, true, false, ◌&&◌, ◌||◌, not, cond, List, [], ◌∷◌, leb, ltb, eqb, get_or}
 use Rattle.ground.specs.Sums.{total}
 use Rattle.ground.specs.declared.dates.Date.{Date}
-use Rattle.ground.specs.declared.dates.DayNumber.{DayNumber}
-use Rattle.ground.specs.declared.dates.DayNumber.TheVariants.{Day, NoSuchDate}
 
 abbrev pub first_year : ℕ
 first_year = 1_880
@@ -47,8 +45,8 @@ days_before_month y m = total (λ n. length_of_month y (n + 1)) (m - 1)
 unfoldable pub day_number : Date → ℕ
 day_number d = days_before_year d.year + days_before_month d.year d.month + (d.day - 1)
 
-unfoldable pub day_of : Date → DayNumber
-day_of d = cond (is_date d) (Day (day_number d)) NoSuchDate
+unfoldable pub day_of : Date → Option ℕ
+day_of d = cond (is_date d) (Some (day_number d)) None
 
 -- One date is earlier than another by year, then month, then day.
 unfoldable pub earlier : Date → Date → Bool

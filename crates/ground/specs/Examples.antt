@@ -10,7 +10,7 @@ use Rattle.ground.specs.declared.boxes.Range.{Range}
 use Rattle.ground.specs.declared.boxes.Box.{Box}
 use Rattle.ground.specs.declared.boxes.Cut.TheVariants.{Left, Unchanged}
 use Rattle.ground.specs.declared.dates.Date.{Date}
-use Rattle.ground.specs.declared.dates.DayNumber.TheVariants.{Day, NoSuchDate}
+use Rattle.std.specs.Prelude.{Some, None}
 use Rattle.ground.specs.declared.gusts.Gust.{Gust}
 
 abbrev to : ℕ → ℕ → Range
@@ -26,40 +26,40 @@ abbrev gust : ℕ → Gust
 gust n = record { tenths = n }
 
 -- Rules 9.2, 9.3, 9.4, P: 1880-03-01 is day 60; 1900-01-01 is 7,305; 2039-12-31 is 58,438, the day limit
-pub first_of_march : day_of (date 1_880 3 1) ≡ Day 60
+pub first_of_march : day_of (date 1_880 3 1) ≡ Some 60
 unfolding day_of is_date length_of_month day_number days_before_year days_before_month length_of_year total
 first_of_march = refl
 
-pub new_century : day_of (date 1_900 1 1) ≡ Day 7_305
+pub new_century : day_of (date 1_900 1 1) ≡ Some 7_305
 unfolding day_of is_date length_of_month day_number days_before_year days_before_month length_of_year total
 new_century = refl
 
-pub last_day : day_of (date 2_039 12 31) ≡ Day 58_438
+pub last_day : day_of (date 2_039 12 31) ≡ Some 58_438
 last_day = limit_is_last
 
 -- Rule 9.a: 1900 had no 29 February, so 1900-03-01 is day 7,364; 2000 had one
-pub no_leap_day_in_1900 : day_of (date 1_900 2 29) ≡ NoSuchDate
+pub no_leap_day_in_1900 : day_of (date 1_900 2 29) ≡ None
 unfolding day_of is_date length_of_month
 no_leap_day_in_1900 = refl
 
-pub march_of_1900 : day_of (date 1_900 3 1) ≡ Day 7_364
+pub march_of_1900 : day_of (date 1_900 3 1) ≡ Some 7_364
 unfolding day_of is_date length_of_month day_number days_before_year days_before_month length_of_year total
 march_of_1900 = refl
 
-pub leap_day_in_2000 : day_of (date 2_000 2 29) ≡ Day 43_888
+pub leap_day_in_2000 : day_of (date 2_000 2 29) ≡ Some 43_888
 unfolding day_of is_date length_of_month day_number days_before_year days_before_month length_of_year total
 leap_day_in_2000 = refl
 
 -- the day before the first, the day after the last, and the 30th of February are no dates
-pub before_the_first : day_of (date 1_879 12 31) ≡ NoSuchDate
+pub before_the_first : day_of (date 1_879 12 31) ≡ None
 unfolding day_of is_date
 before_the_first = refl
 
-pub after_the_last : day_of (date 2_040 1 1) ≡ NoSuchDate
+pub after_the_last : day_of (date 2_040 1 1) ≡ None
 unfolding day_of is_date
 after_the_last = refl
 
-pub thirtieth_of_february : day_of (date 1_904 2 30) ≡ NoSuchDate
+pub thirtieth_of_february : day_of (date 1_904 2 30) ≡ None
 unfolding day_of is_date length_of_month
 thirtieth_of_february = refl
 

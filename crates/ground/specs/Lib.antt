@@ -2,6 +2,7 @@
 pub mod Boxes
 pub mod Cutting
 pub mod Dates
+pub mod Refusals
 pub mod Tests
 pub mod Sums
 pub mod Facts

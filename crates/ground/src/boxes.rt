@@ -1,16 +1,16 @@
 // Boxes: three closed ranges, both ends inside. Every function answers for every six numbers, legal or not.
-ghost use Rattle.std.specs.Prelude.{◌≡◌, min, max};
+ghost use Rattle.std.specs.Prelude.{◌≡◌};
 ghost use Rattle.ground.specs.Boxes.{holds, touches_on, covers_on, length_on, join_on, legal_on};
 ghost use Rattle.ground.specs.Boxes.{touches, covers, size, join, legal};
 ghost use Rattle.ground.specs.Cutting.{covers_one_end, rest_on, cut};
 
-#[derive(Clone, Copy)]
+#[derive(Clone, Copy, Debug, Default, PartialEq, Eq)]
 pub struct Range {
     pub low: u16,
     pub high: u16,
 }
 
-#[derive(Clone, Copy)]
+#[derive(Clone, Copy, Debug, Default, PartialEq, Eq)]
 pub struct Box {
     pub east: Range,
     pub north: Range,
@@ -18,7 +18,7 @@ pub struct Box {
 }
 
 // What a candidate does to a box that is being recorded.
-#[derive(Clone, Copy)]
+#[derive(Clone, Copy, Debug, PartialEq, Eq)]
 pub enum Cut {
     // The candidate covers the box whole.
     Covered,
@@ -51,16 +51,15 @@ impl Range {
         ensures { result ≡ length_on self }
     {
         let past = self.high as u64 + 1;
-        let low = self.low as u64;
-        if low <= past { past - low } else { 0 }
+        past.saturating_sub(self.low as u64)
     }
 
     pub fn join(self, other: Range) -> Range
         ensures { result ≡ join_on self other }
     {
         Range {
-            low: least(self.low, other.low),
-            high: most(self.high, other.high),
+            low: self.low.min(other.low),
+            high: self.high.max(other.high),
         }
     }
 
@@ -84,13 +83,13 @@ impl Range {
         if self.holds(b.low) & (self.high < b.high) {
             return Range {
                 low: self.high + 1,
-                high: b.high,
+                ..b
             };
         }
         if self.holds(b.high) & (b.low < self.low) {
             return Range {
-                low: b.low,
                 high: self.low - 1,
+                ..b
             };
         }
         b
@@ -158,31 +157,18 @@ impl Box {
         if !candidate.touches(self) {
             return Cut::Unchanged;
         }
-        let mut left = self;
         if north & day & candidate.east.covers_one_end(self.east) {
-            left.east = candidate.east.leaves(self.east);
-            return Cut::Left(left);
+            let east = candidate.east.leaves(self.east);
+            return Cut::Left(Box { east, ..self });
         }
         if east & day & candidate.north.covers_one_end(self.north) {
-            left.north = candidate.north.leaves(self.north);
-            return Cut::Left(left);
+            let north = candidate.north.leaves(self.north);
+            return Cut::Left(Box { north, ..self });
         }
         if east & north & candidate.day.covers_one_end(self.day) {
-            left.day = candidate.day.leaves(self.day);
-            return Cut::Left(left);
+            let day = candidate.day.leaves(self.day);
+            return Cut::Left(Box { day, ..self });
         }
         Cut::Unchanged
     }
-}
-
-fn least(a: u16, b: u16) -> u16
-    ensures { result ≡ min a b }
-{
-    if a <= b { a } else { b }
-}
-
-fn most(a: u16, b: u16) -> u16
-    ensures { result ≡ max a b }
-{
-    if a <= b { b } else { a }
 }

@@ -2,17 +2,11 @@
 ghost use Rattle.std.specs.Prelude.{◌≡◌};
 ghost use Rattle.ground.specs.Dates.{leap, length_of_month, is_date, days_before_year, days_before_month, day_of};
 
-#[derive(Clone, Copy)]
+#[derive(Clone, Copy, Debug, PartialEq, Eq)]
 pub struct Date {
     pub year: u32,
     pub month: u32,
     pub day: u32,
-}
-
-#[derive(Clone, Copy)]
-pub enum DayNumber {
-    Day(u16),
-    NoSuchDate,
 }
 
 impl Date {
@@ -22,15 +16,15 @@ impl Date {
     // February stands for a year that has no leap day.
     const MONTH_LENGTHS: [u32; 12] = [31, 28, 31, 30, 31, 30, 31, 31, 30, 31, 30, 31];
 
-    // The day number, or that the calendar lacks the date.
-    pub fn day_number(self) -> DayNumber
+    // The day number, unless the calendar lacks the date.
+    pub fn day_number(self) -> Option<u16>
         ensures { result ≡ day_of self }
     {
         if !self.exists() {
-            return DayNumber::NoSuchDate;
+            return None;
         }
         let before = days_before_year(self.year) + days_before_month(self.year, self.month);
-        DayNumber::Day((before + (self.day - 1) as u64) as u16)
+        Some((before + (self.day - 1) as u64) as u16)
     }
 
     pub fn exists(self) -> bool
@@ -82,11 +76,9 @@ fn days_before_year(year: u32) -> u64
 fn days_before_month(year: u32, month: u32) -> u64
     ensures { result ≡ days_before_month year month }
 {
-    let mut days: u64 = 0;
-    let mut m = 1;
-    while m < month {
+    let mut days = 0;
+    for m in 1..month {
         days += length_of_month(year, m) as u64;
-        m += 1;
     }
     days
 }

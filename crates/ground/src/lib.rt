@@ -5,7 +5,9 @@
 mod boxes;
 mod dates;
 mod gusts;
+mod refusals;
 
 pub use boxes::{Box, Cut, Range};
-pub use dates::{Date, DayNumber};
+pub use dates::Date;
 pub use gusts::Gust;
+pub use refusals::Refusal;

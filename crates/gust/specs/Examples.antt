@@ -21,7 +21,7 @@ use Rattle.rules.specs.Strike.{select, strike_all, strike_one, strike}
 use Rattle.rules.specs.Scan.{candidate, scan_entry, scan}
 use Rattle.rules.specs.Recording.{growth, goes_before, least_grown, choose, split_page, settle, exact_at, come_back, append, go_down, go_on, walk_down, from_root, collapse, recorded}
 use Rattle.rules.specs.Record.{refusal, record_into}
-use Rattle.counter.specs.Counter.{calls_of, outcome_says, record_says, ask_says, count_says, answer_to, after_all, ended, longer, by_byte, fed, finished_by, finished}
+use Rattle.counter.specs.Counter.{calls_of, outcome_says, record_says, gust_says, ask_says, count_says, answer_to, after_all, ended, longer, by_byte, fed, finished_by, finished}
 
 -- Rule 8.1: the program's table of 180 empty pages, cleared
 abbrev pub opened : Book
@@ -39,5 +39,5 @@ printed_out =
 
 -- Rule 9.1.
 pub transcript : (finished (fed typed_in (record { book = opened; line = []; out = [] }))).out ≡ printed_out
-unfolding fed by_byte longer ended finished_by answer_to after_all calls_of record_says outcome_says ask_says count_says empty_table with_byte words are_digits number_from is_a value are_a values same command command_of parsed is_date length_of_month day_number days_before_year days_before_month length_of_year total decimal_of printed record_into refusal recorded from_root collapse walk_down go_on go_down append come_back exact_at settle split_page choose least_grown goes_before growth scan scan_entry candidate strike strike_one strike_all select cut cuts_on covers_one_end left left_on xor covers touches join size summary_of summary covering first_greatest least_of lowest_from free_count page_from well_formed pages_stand root_stands every_below children_lower is_lower children every reached_once times walk page_stands count_stands entries_stand leaf_entry_stands is_exact same_words counts_stand held_records leaf_entries flat_map legal table_of pages_of cut_pages page_of entries_of entry_at box_at words_of_page words_of_entries words_of_entry words_of_box asked search_book search_page search_opened search_one search_record raised in_order may_open asked_by counted
+unfolding fed by_byte longer ended finished_by answer_to after_all calls_of record_says outcome_says gust_says ask_says count_says empty_table with_byte words are_digits number_from is_a value are_a values same command command_of parsed is_date length_of_month day_number days_before_year days_before_month length_of_year total decimal_of printed record_into refusal recorded from_root collapse walk_down go_on go_down append come_back exact_at settle split_page choose least_grown goes_before growth scan scan_entry candidate strike strike_one strike_all select cut cuts_on covers_one_end left left_on xor covers touches join size summary_of summary covering first_greatest least_of lowest_from free_count page_from well_formed pages_stand root_stands every_below children_lower is_lower children every reached_once times walk page_stands count_stands entries_stand leaf_entry_stands is_exact same_words counts_stand held_records leaf_entries flat_map legal table_of pages_of cut_pages page_of entries_of entry_at box_at words_of_page words_of_entries words_of_entry words_of_box asked search_book search_page search_opened search_one search_record raised in_order may_open asked_by counted
 transcript = refl

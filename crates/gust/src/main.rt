@@ -3,26 +3,19 @@
 
 ghost use Rattle.gust.specs.Program.{WholeRun};
 
-use counter::State;
-use serving::{Ending, Turn};
+use serving::Ending;
 use std::io::Write;
 
-// What a clerk is told if the answers end early.
-fn tell<W: Write>(writer: &mut W, ending: Ending) {
+// What a clerk is told: nothing unless the answers end early.
+fn told(ending: Ending) -> &'static str {
     match ending {
-        Ending::InputEnded => {}
+        Ending::InputEnded => "",
         Ending::ReadFailed => {
-            let _ = writer.write_all(
-                b"gust: the input could not be read to its end; what came before is answered\n",
-            );
+            "gust: the input could not be read to its end; what came before is answered\n"
         }
-        Ending::TurnsSpent => {
-            let _ = writer.write_all(b"gust: no more is read; what came before is answered\n");
-        }
+        Ending::TurnsSpent => "gust: no more is read; what came before is answered\n",
         Ending::NotWritten => {
-            let _ = writer.write_all(
-                b"gust: the answers could not be written; what was asked from there on is not answered\n",
-            );
+            "gust: the answers could not be written; what was asked from there on is not answered\n"
         }
     }
 }
@@ -32,18 +25,16 @@ fn run(rt: HostRuntime)
 {
     // A page table of 180 empty pages.
     let mut table = [0u16; 30600];
-    let mut line = [0u8; State::LINE];
-    let mut input = [0u8; Turn::CHUNK];
-    let mut out = [0u8; Turn::ANSWERS];
+    let mut input = [0u8; serving::CHUNK];
+    let mut out = [0u8; serving::ANSWERS];
     let ending = serving::serve(
         &mut rt.stdin(),
         &mut rt.stdout(),
         &mut table,
-        &mut line,
         &mut input,
         &mut out,
     );
-    tell(&mut rt.stderr(), ending);
+    let _ = rt.stderr().write_all(told(ending).as_bytes());
 }
 
 fn main(rt: HostRuntime) {

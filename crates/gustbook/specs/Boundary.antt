@@ -1,11 +1,13 @@
 -- The calls for C and Rust, in numbers. A call returns 0 or the refusal's number; its answer goes to numbers that the caller lends, which a refusal leaves alone.
-use Rattle.std.specs.Prelude.{ℕ, List, [], ◌∷◌, get_or}
+use Rattle.std.specs.Prelude.{Option, Some, None, Result, Ok, Err, ℕ, List, [], ◌∷◌, get_or}
 use Rattle.asking.specs.declared.Asked.{Asked}
-use Rattle.asking.specs.declared.Asked.TheVariants as say
+use Rattle.ground.specs.Refusals.{number}
+use Rattle.ground.specs.declared.refusals.Refusal.{Refusal}
 use Rattle.ground.specs.declared.boxes.Box.{Box}
 use Rattle.index.specs.Calls.{Left}
-use Rattle.index.specs.declared.Counted.{Counted}
-use Rattle.index.specs.declared.Counted.TheVariants as tell
+use Rattle.index.specs.declared.Counts.{Counts}
+use Rattle.recording.specs.RecordSteps.{outcome_is}
+use Rattle.recording.specs.declared.Recorded as code-recorded
 use Rattle.wide.specs.Wide.{as_given}
 use Rattle.wide.specs.declared.WideBox.{WideBox}
 use Rattle.pages.specs.declared.Small.{Small}
@@ -45,13 +47,20 @@ pub record Told : Type 0 where
   pub refusal : ℕ
   pub answer : List ℕ
 
+-- Rules 7.31, 7.32: a refusal returns its number, and leaves the answer's numbers as they were lent.
+abbrev pub told_by : {T : Type 0} → (T → List ℕ) → Result T Refusal → List ℕ → Told
+told_by numbers (Err refusal) lent = record { refusal = number refusal; answer = lent }
+told_by numbers (Ok answer) lent = record { refusal = 0; answer = numbers answer }
+
 -- Rules 4.81, 4.82: recording: 0 kept, 1 cut, 2 covered; then the struck count.
 abbrev pub outcome_number : Outcome → ℕ
 outcome_number Kept = 0
 outcome_number Cut = 1
 outcome_number Covered = 2
 
--- Rule 7.32: a refusal leaves the answer's numbers as they were lent.
+abbrev pub recorded_numbers : code-recorded.Recorded → List ℕ
+recorded_numbers r = outcome_number (outcome_is r.outcome) ∷ r.struck ∷ []
+
 abbrev pub record_told : Reply → List ℕ → Told
 record_told (Refused number) lent = record { refusal = number; answer = lent }
 record_told (Answered a) lent = record { refusal = 0; answer = outcome_number a.outcome ∷ a.struck ∷ [] }
@@ -65,12 +74,19 @@ abbrev pub record_leaves : Called → List ℕ → Recorded
 record_leaves c lent = record { told = record_told c.reply lent; table = c.table; small = numbers_of c.small }
 
 -- Rule 5.13: asking: 1 and the gust, or 0 and 0 for nothing; then the pages opened.
-abbrev pub ask_told : Asked → List ℕ → Told
-ask_told (say.Refused number) lent = record { refusal = number; answer = lent }
-ask_told (say.Nothing pages) lent = record { refusal = 0; answer = 0 ∷ 0 ∷ pages ∷ [] }
-ask_told (say.Gust gust pages) lent = record { refusal = 0; answer = 1 ∷ gust ∷ pages ∷ [] }
+abbrev pub gust_numbers : Option ℕ → ℕ → List ℕ
+gust_numbers None pages = 0 ∷ 0 ∷ pages ∷ []
+gust_numbers (Some gust) pages = 1 ∷ gust ∷ pages ∷ []
+
+abbrev pub asked_numbers : Asked → List ℕ
+asked_numbers a = gust_numbers a.gust a.pages
+
+abbrev pub ask_told : Result Asked Refusal → List ℕ → Told
+ask_told = told_by asked_numbers
 
 -- Rule 1.4: counting: accepted, held, struck, covered.
-abbrev pub count_told : Counted → List ℕ → Told
-count_told (tell.Refused number) lent = record { refusal = number; answer = lent }
-count_told (tell.Counts accepted held struck covered) lent = record { refusal = 0; answer = accepted ∷ held ∷ struck ∷ covered ∷ [] }
+abbrev pub counts_numbers : Counts → List ℕ
+counts_numbers n = n.accepted ∷ n.held ∷ n.struck ∷ n.covered ∷ []
+
+abbrev pub count_told : Result Counts Refusal → List ℕ → Told
+count_told = told_by counts_numbers

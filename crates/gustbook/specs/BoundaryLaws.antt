@@ -6,7 +6,8 @@ use Rattle.std.proofs.Math.Path.{refl, sym}
 use Rattle.std.proofs.Common.{ap, ◌∙◌, arith, ltb-true, eqb-true, take_all}
 use Rattle.std.proofs.Math.Dec.{leb, ltb, eqb}
 use Rattle.asking.specs.Asking.{Search.refused as turned_away, asked, answered, may_open, search_opened, search_page, search_book, least_root}
-use Rattle.asking.specs.declared.Asked.TheVariants as say
+use Rattle.std.specs.Prelude.{Err}
+use Rattle.ground.specs.declared.refusals.Refusal.TheVariants as no
 use Rattle.ground.specs.Boxes.{legal}
 use Rattle.ground.specs.Tests.{both, three}
 use Rattle.ground.specs.declared.boxes.Box.{Box}
@@ -89,7 +90,7 @@ module _ (t : List ℕ) (s : Small) (q : Box) (words : Words t) (fits : table_fi
       stands_low g.0 (eqb-true x.level (suc n) k.1 ∙ sym e)
 
   -- and to a legal question.
-  pub wide_asked : legal q ≡ true → ((s.root ≤ greatest) × (s.height ≤ greatest) → ⊥) → asked t s q ≡ say.Refused 4
+  pub wide_asked : legal q ≡ true → ((s.root ≤ greatest) × (s.height ≤ greatest) → ⊥) → asked t s q ≡ Err no.Damaged
   unfolding asked answered search_book search_page search_opened
   wide_asked l d = rw (fits, l) (ap answered (at_root s.height refl))
     where

@@ -1,5 +1,5 @@
 -- The calls on a strip, in numbers: two numbers are a range of days, as great as they are; the answer is two numbers that the caller lends.
-use Rattle.std.specs.Prelude.{ℕ, ◌≤◌, Bool, List, [], ◌∷◌, ◌≡◌, get_or}
+use Rattle.std.specs.Prelude.{ℕ, ◌≤◌, Bool, List, [], ◌∷◌, Option, Some, None, Result, ◌≡◌, get_or}
 use Rattle.std.proofs.Math.Bool.{true, false}
 use Rattle.std.proofs.Math.Path.{refl, ap, ap₂}
 use Rattle.std.proofs.Common.{sym, ◌∙◌, leb-true}
@@ -8,11 +8,10 @@ use Rattle.std.proofs.Math.Dec.{leb}
 use Rattle.ground.specs.Boxes.{day_limit, gust_limit, legal_on}
 use Rattle.ground.specs.Tests.{orders, ordered, same_test}
 use Rattle.ground.specs.declared.boxes.Range.{Range}
+use Rattle.ground.specs.declared.refusals.Refusal.{Refusal}
 use Rattle.strip.specs.StripCalls.{Lent, Left, recorded, asked}
-use Rattle.strip.specs.declared.Asked.{Asked}
-use Rattle.strip.specs.declared.Asked.TheVariants as say
 use Rattle.wide.specs.Wide.{narrow, narrow_passes}
-use Rattle.gustbook.specs.Boundary.{Told}
+use Rattle.gustbook.specs.Boundary.{Told, told_by}
 
 abbrev to : ℕ → ℕ → Range
 to low high = record { low = low; high = high }
@@ -24,10 +23,12 @@ abbrev pub narrow_days : List ℕ → Range
 narrow_days w = to (narrow (get_or w 0 0)) (narrow (get_or w 1 0))
 
 -- Asking: 1 and the gust, or 0 and 0 for nothing.
-abbrev pub strip_told : Asked → List ℕ → Told
-strip_told (say.Refused number) lent = record { refusal = number; answer = lent }
-strip_told say.Nothing lent = record { refusal = 0; answer = 0 ∷ 0 ∷ [] }
-strip_told (say.Gust gust) lent = record { refusal = 0; answer = 1 ∷ gust ∷ [] }
+abbrev pub greatest_numbers : Option ℕ → List ℕ
+greatest_numbers None = 0 ∷ 0 ∷ []
+greatest_numbers (Some gust) = 1 ∷ gust ∷ []
+
+abbrev pub strip_told : Result (Option ℕ) Refusal → List ℕ → Told
+strip_told = told_by greatest_numbers
 
 -- the numbers narrowed are refused as those given, and are those given where they are not
 legal_narrow : (a b : ℕ) → legal_on day_limit (to (narrow a) (narrow b)) ≡ legal_on day_limit (to a b)
@@ -68,19 +69,8 @@ module _ (s : Lent) (a b : ℕ) where
 pub strip_recorded : (s : Lent) (w : List ℕ) (days : Range) (v n : ℕ) (l : Left) → days ≡ narrow_days w → n ≡ narrow v → l ≡ recorded s days n → l ≡ recorded s (days_of w) v
 strip_recorded s w days v n l p q e = e ∙ ap₂ (recorded s) p q ∙ record_narrow s (get_or w 0 0) (get_or w 1 0) v
 
-pub strip_asked : (s : Lent) (w lent : List ℕ) (days : Range) (a : Asked) (y : Told) → days ≡ narrow_days w → a ≡ asked s days → y ≡ strip_told a lent → y ≡ strip_told (asked s (days_of w)) lent
+pub strip_asked : (s : Lent) (w lent : List ℕ) (days : Range) (a : Result (Option ℕ) Refusal) (y : Told) → days ≡ narrow_days w → a ≡ asked s days → y ≡ strip_told a lent → y ≡ strip_told (asked s (days_of w)) lent
 strip_asked s w lent days a y p q e = e ∙ ap (λ x. strip_told x lent) (q ∙ ap (asked s) p ∙ ask_narrow s (get_or w 0 0) (get_or w 1 0))
-
--- each case of an answer
-module _ (lent : List ℕ) (y : Asked) where
-  pub told_refused : (n : ℕ) → y ≡ say.Refused n → record { refusal = n; answer = lent } ≡ strip_told y lent
-  told_refused n e = ap (λ x. strip_told x lent) (sym e)
-
-  pub told_nothing : y ≡ say.Nothing → record { refusal = 0; answer = 0 ∷ 0 ∷ [] } ≡ strip_told y lent
-  told_nothing e = ap (λ x. strip_told x lent) (sym e)
-
-  pub told_gust : (g : ℕ) → y ≡ say.Gust g → record { refusal = 0; answer = 1 ∷ g ∷ [] } ≡ strip_told y lent
-  told_gust g e = ap (λ x. strip_told x lent) (sym e)
 
 -- Each promise settles all that a call on a strip returns and leaves: two results that it allows are equal. (Asking: `told_settled`.)
 pub strip_settled : (x a b : Left) → a ≡ x → b ≡ x → (a.refusal ≡ b.refusal) × (a.strip.words ≡ b.strip.words) × (a.strip.count ≡ b.strip.count)

@@ -1,12 +1,48 @@
 // Answers as numbers: the refusal is returned, and the answer is written where the caller lends room. A refusal writes nothing.
-ghost use Rattle.std.specs.Prelude.{◌≡◌};
-ghost use Rattle.recording.specs.CallSteps.{reply_of};
+ghost use Rattle.std.specs.Prelude.{◌≡◌, ℕ, List};
+ghost use Rattle.ground.specs.Refusals.{number_of};
 ghost use Rattle.recording.specs.RecordSteps.{outcome_is};
-ghost use Rattle.gustbook.specs.Boundary.{outcome_number, record_told, ask_told, count_told};
+ghost use Rattle.gustbook.specs.Boundary.{outcome_number, told_by, recorded_numbers, asked_numbers, counts_numbers};
 
 use asking::Asked;
-use index::Counted;
-use recording::{Outcome, Reply};
+use ground::Refusal;
+use index::Counts;
+use recording::{Outcome, Recorded};
+
+// An answer in the numbers that a caller lends for it.
+pub trait InNumbers<const N: usize> {
+    ghost numbers: { Self → List ℕ };
+
+    fn in_numbers(self) -> [u32; N]
+        ensures { result ≡ numbers self };
+}
+
+impl InNumbers<2> for Recorded {
+    ghost numbers = { recorded_numbers };
+
+    fn in_numbers(self) -> [u32; 2] {
+        [outcome_number(self.outcome), self.struck]
+    }
+}
+
+impl InNumbers<3> for Asked {
+    ghost numbers = { asked_numbers };
+
+    fn in_numbers(self) -> [u32; 3] {
+        match self.gust {
+            None => [0, 0, self.pages],
+            Some(gust) => [1, gust as u32, self.pages],
+        }
+    }
+}
+
+impl InNumbers<4> for Counts {
+    ghost numbers = { counts_numbers };
+
+    fn in_numbers(self) -> [u32; 4] {
+        [self.accepted, self.held, self.struck, self.covered]
+    }
+}
 
 fn outcome_number(o: Outcome) -> u32
     ensures { result ≡ outcome_number (outcome_is o) }
@@ -18,47 +54,25 @@ fn outcome_number(o: Outcome) -> u32
     }
 }
 
-pub fn tell_recorded(reply: Reply, answer: &mut [u32; 2]) -> u32
-    ensures { record { refusal = result; answer = answer.new } ≡ record_told (reply_of reply) answer.old }
+// What a call with an answer returns, and the answer written.
+pub fn tell<T: InNumbers<N>, const N: usize>(said: Result<T, Refusal>, answer: &mut [u32; N]) -> u32
+    ensures { record { refusal = result; answer = answer.new } ≡ told_by T.numbers said answer.old }
 {
-    match reply {
-        Reply::Refused(number) => number as u32,
-        Reply::Says(outcome, struck) => {
-            *answer = [outcome_number(outcome), struck];
+    match said {
+        Ok(told) => {
+            *answer = told.in_numbers();
             0
         }
+        Err(refusal) => u32::from(refusal),
     }
 }
 
-pub fn tell_asked(said: Asked, answer: &mut [u32; 3]) -> u32
-    ensures { record { refusal = result; answer = answer.new } ≡ ask_told said answer.old }
+// What a call without one returns.
+pub fn number_of(done: Result<(), Refusal>) -> u32
+    ensures { result ≡ number_of done }
 {
-    match said {
-        Asked::Refused(number) => number as u32,
-        Asked::Nothing { pages } => {
-            *answer = [0, 0, pages as u32];
-            0
-        }
-        Asked::Gust { gust, pages } => {
-            *answer = [1, gust as u32, pages as u32];
-            0
-        }
-    }
-}
-
-pub fn tell_counted(said: Counted, answer: &mut [u32; 4]) -> u32
-    ensures { record { refusal = result; answer = answer.new } ≡ count_told said answer.old }
-{
-    match said {
-        Counted::Refused(number) => number as u32,
-        Counted::Counts {
-            accepted,
-            held,
-            struck,
-            covered,
-        } => {
-            *answer = [accepted, held, struck, covered];
-            0
-        }
+    match done {
+        Ok(()) => 0,
+        Err(refusal) => u32::from(refusal),
     }
 }

@@ -1,4 +1,4 @@
-// The small record and a box as the numbers that cross the boundary.
+// The small record and a box as the numbers that cross the boundary: the exports promise of each number what becomes of it, so numbers are lent.
 ghost use Rattle.std.specs.Prelude.{◌≡◌};
 ghost use Rattle.wide.specs.Wide.{narrowed};
 ghost use Rattle.gustbook.specs.Boundary.{small_of, numbers_of, wide_of};

@@ -2,36 +2,46 @@
 ghost use Rattle.std.specs.Prelude.{◌≡◌};
 ghost use Rattle.strip.specs.StripCalls.{cleared, recorded, asked};
 ghost use Rattle.wide.specs.Wide.{narrow};
-ghost use Rattle.gustbook.specs.StripBoundary.{days_of, narrow_days, strip_told};
+ghost use Rattle.gustbook.specs.StripBoundary.{days_of, narrow_days, greatest_numbers, strip_told};
 
+use crate::answers::{InNumbers, number_of, tell};
 use ground::{Gust, Range};
-use strip::{Asked, Strip};
+use strip::Strip;
 use wide::narrow;
+
+// The greatest gust of some days, if any has one.
+impl InNumbers<2> for Option<u32> {
+    ghost numbers = { greatest_numbers };
+
+    fn in_numbers(self) -> [u32; 2] {
+        match self {
+            None => [0, 0],
+            Some(gust) => [1, gust],
+        }
+    }
+}
 
 // Refusal 4.
 pub fn gust_strip_clear(segments: &mut [u32], count: &mut u32) -> u32
     ensures { record { refusal = result; strip = record { words = segments.new; count = count.new } } ≡ cleared (record { words = segments.old; count = count.old }) }
 {
-    let ended = strip::clear(segments, Strip { count: *count });
-    let left = ended.strip;
-    *count = left.count;
-    ended.refusal
+    let mut strip = Strip { count: *count };
+    let done = strip::clear(segments, &mut strip);
+    *count = strip.count;
+    number_of(done)
 }
 
 // Refusals 2, 3, 4 and 10.
 pub fn gust_strip_record(segments: &mut [u32], count: &mut u32, days: &[u32; 2], gust: u32) -> u32
     ensures { record { refusal = result; strip = record { words = segments.new; count = count.new } } ≡ recorded (record { words = segments.old; count = count.old }) (days_of days.now) gust }
 {
-    let tenths = narrow(gust);
-    let ended = strip::record(
-        segments,
-        Strip { count: *count },
-        days_of(days),
-        Gust { tenths },
-    );
-    let left = ended.strip;
-    *count = left.count;
-    ended.refusal
+    let mut strip = Strip { count: *count };
+    let gust = Gust {
+        tenths: narrow(gust),
+    };
+    let done = strip::record(segments, &mut strip, days_of(days), gust);
+    *count = strip.count;
+    number_of(done)
 }
 
 // Refusals 2 and 4. The answer: 1 and the gust, or 0 and 0 for nothing.
@@ -48,21 +58,5 @@ fn days_of(days: &[u32; 2]) -> Range
     Range {
         low: narrow(days[0]),
         high: narrow(days[1]),
-    }
-}
-
-fn tell(said: Asked, answer: &mut [u32; 2]) -> u32
-    ensures { record { refusal = result; answer = answer.new } ≡ strip_told said answer.old }
-{
-    match said {
-        Asked::Refused(number) => number,
-        Asked::Nothing => {
-            *answer = [0, 0];
-            0
-        }
-        Asked::Gust(gust) => {
-            *answer = [1, gust];
-            0
-        }
     }
 }

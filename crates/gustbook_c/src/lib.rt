@@ -1,5 +1,5 @@
 // The calls of gustbook, exported for C and Rust: a slice is a pointer and a length there, and the other references are pointers.
-// Each export makes its call, and promises what that promises.
+// Each export makes its call, and promises what that promises: an export is for C alone, and other crates need a function that they can call.
 #![tactic(auto)]
 
 mod strips;

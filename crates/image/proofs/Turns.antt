@@ -1,5 +1,5 @@
--- The two loops over words: what holds after i turns, at none, at one more, and at the end.
-use mathlib.Core.Path.{◌≡◌, refl, sym, ap, ◌∙◌}
+-- The two loops over words: what holds at one turn more, and at the end.
+use mathlib.Core.Path.{◌≡◌, sym, ap, ◌∙◌}
 use mathlib.Core.List.{List, [], ◌∷◌, ◌++◌, append_assoc}
 use Prim.Native.Nat.{ℕ, suc, ◌+◌, ◌*◌, ◌/◌, ◌%◌, ◌≤◌, ◌<◌}
 use native.Mathlib.Numerals.{add-one}
@@ -25,56 +25,28 @@ take_pair l n h =
 twice_more : (i : ℕ) → 2 * (i + 1) ≡ suc (suc (2 * i))
 twice_more i = omega arith
 
-pub record Written (ws out : List ℕ) (i : ℕ) : Type 0 where
-  pub within : i ≤ length ws
-  pub room : length out ≡ 2 * length ws
-  pub bytes : take (2 * i) out ≡ word_bytes (take i ws)
-
-pub written_none : (ws out : List ℕ) → length out ≡ 2 * length ws → Written ws out 0
-unfolding word_bytes
-written_none ws out e = record { within = omega arith; room = e; bytes = refl }
-
 pub written_more :
-    (ws out : List ℕ) (i low high : ℕ) → Written ws out i → i < length ws → low ≡ get_or ws i 0 % 256 → high ≡ get_or ws i 0 / 256 % 256
-    → Written ws (set (set out (2 * i) low) (2 * i + 1) high) (i + 1)
+    (ws out : List ℕ) (i low high : ℕ) → length out ≡ 2 * length ws → i < length ws → low ≡ get_or ws i 0 % 256 → high ≡ get_or ws i 0 / 256 % 256
+    → take (2 * i) out ≡ word_bytes (take i ws) → take (2 * (i + 1)) (set (set out (2 * i) low) (2 * i + 1) high) ≡ word_bytes (take (i + 1) ws)
 unfolding word_bytes low_first
-written_more ws out i low high h less p q =
-    let inside : 2 * i + 1 < length out = omega (arith, h.room) in
-    record {
-      within = omega arith;
-      room = length-set (set out (2 * i) low) (2 * i + 1) high ∙ length-set out (2 * i) low ∙ h.room;
-      bytes =
-          rw (twice_more i, take_pair_set out (2 * i) low high inside, add-one, take-suc ws i 0 less, word_bytes_append (take i ws) (get_or ws i 0 ∷ []), h.bytes, p, q);
-    }
+written_more ws out i low high room less p q h =
+    let inside : 2 * i + 1 < length out = omega arith in
+    rw (twice_more i, take_pair_set out (2 * i) low high inside, add-one, take-suc ws i 0 less, word_bytes_append (take i ws) (get_or ws i 0 ∷ []), h, p, q)
 
-pub written_all : (ws out : List ℕ) (i : ℕ) → Written ws out i → length ws ≤ i → out ≡ word_bytes ws
-written_all ws out i h done =
-    sym (take_all (2 * i) out (omega (arith, h.room))) ∙ h.bytes ∙ ap word_bytes (take_all i ws done)
-
-pub record Taken (bytes ws : List ℕ) (i : ℕ) : Type 0 where
-  pub within : i ≤ length ws
-  pub room : length bytes ≡ 2 * length ws
-  pub words : take i ws ≡ byte_words (take (2 * i) bytes)
-
-pub taken_none : (bytes ws : List ℕ) → length bytes ≡ 2 * length ws → Taken bytes ws 0
-unfolding byte_words
-taken_none bytes ws e = record { within = omega arith; room = e; words = refl }
+pub written_all : (ws out : List ℕ) (i : ℕ) → length out ≡ 2 * length ws → length ws ≤ i → take (2 * i) out ≡ word_bytes (take i ws) → out ≡ word_bytes ws
+written_all ws out i room done h =
+    sym (take_all (2 * i) out (omega arith)) ∙ h ∙ ap word_bytes (take_all i ws done)
 
 pub taken_more :
-    (bytes ws : List ℕ) (i w : ℕ) → Taken bytes ws i → i < length ws → w ≡ number (get_or bytes (2 * i) 0 ∷ get_or bytes (2 * i + 1) 0 ∷ [])
-    → Taken bytes (set ws i w) (i + 1)
+    (bytes ws : List ℕ) (i w : ℕ) → length bytes ≡ 2 * length ws → i < length ws → w ≡ number (get_or bytes (2 * i) 0 ∷ get_or bytes (2 * i + 1) 0 ∷ [])
+    → take i ws ≡ byte_words (take (2 * i) bytes) → take (i + 1) (set ws i w) ≡ byte_words (take (2 * (i + 1)) bytes)
 unfolding byte_words
-taken_more bytes ws i w h less e =
-    let inside : 2 * i + 1 < length bytes = omega (arith, h.room) in
+taken_more bytes ws i w room less e h =
+    let inside : 2 * i + 1 < length bytes = omega arith in
     let even : length (take (2 * i) bytes) ≡ 2 * i = omega (arith, length-take (2 * i) bytes) in
     let pair : List ℕ = get_or bytes (2 * i) 0 ∷ get_or bytes (2 * i + 1) 0 ∷ [] in
-    record {
-      within = omega (arith, length-set ws i w);
-      room = h.room ∙ ap (λ (n : ℕ). 2 * n) (sym (length-set ws i w));
-      words =
-          rw (twice_more i, take_pair bytes (2 * i) inside, byte_words_append i (take (2 * i) bytes) pair even, add-one i, take-suc-set ws i w less, h.words, e);
-    }
+    rw (twice_more i, take_pair bytes (2 * i) inside, byte_words_append i (take (2 * i) bytes) pair even, add-one i, take-suc-set ws i w less, h, e)
 
-pub taken_all : (bytes ws : List ℕ) (i : ℕ) → Taken bytes ws i → length ws ≤ i → ws ≡ byte_words bytes
-taken_all bytes ws i h done =
-    sym (take_all i ws done) ∙ h.words ∙ ap byte_words (take_all (2 * i) bytes (omega (arith, h.room)))
+pub taken_all : (bytes ws : List ℕ) (i : ℕ) → length bytes ≡ 2 * length ws → length ws ≤ i → take i ws ≡ byte_words (take (2 * i) bytes) → ws ≡ byte_words bytes
+taken_all bytes ws i room done h =
+    sym (take_all i ws done) ∙ h ∙ ap byte_words (take_all (2 * i) bytes (omega arith))

@@ -1,5 +1,5 @@
 -- What the functions over a whole image return, from what their callees promise: pure laws over lists.
-use mathlib.Core.Bool.{Bool, ◌&&◌}
+use mathlib.Core.Bool.{◌&&◌}
 use mathlib.Core.Path.{◌≡◌, ap, ◌∙◌}
 use mathlib.Core.List.{List, [], ◌∷◌, ◌++◌, append-nil}
 use Prim.Native.Nat.{ℕ, ◌+◌, ◌*◌, ◌-◌, ◌/◌, ◌%◌, ◌≤◌}
@@ -9,10 +9,11 @@ use lib.Dec.{leb, eqb}
 use lib.ListN.{length, get_or, take, drop, length-append, length-drop, drop_of_length-le}
 use lib.Seq.{take_at, drop_at, take_all}
 use Rattle.ground.specs.Tests.{same_test}
+use Rattle.std.specs.Bool.{then_some}
 use Rattle.image.specs.Bytes.{word_bytes, byte_words}
 use Rattle.image.specs.ByteLaws.{length_word_bytes}
 use Rattle.pages.specs.Layout.{pages_in}
-use Rattle.image.specs.Image.{image_of, image_pages, image_length, sized, trailer_bytes, trailer_for, trailer_of}
+use Rattle.image.specs.Image.{image_of, image_pages, image_length, trailer_bytes, trailer_for, trailer_of}
 use Rattle.image.specs.TrailerLaws.{trailer_read, trailer_words}
 use Rattle.image.specs.declared.trailer.Trailer.{Trailer}
 use Rattle.pages.specs.declared.Small.{Small}
@@ -24,9 +25,9 @@ rest_so n =
     (λ e. let h = eqb-true (n % 340) 22 e in eq-eqb n (image_length (n / 340)) (omega arith))
     (λ e. let h = eqb-true n (image_length (n / 340)) e in eq-eqb (n % 340) 22 (omega arith))
 
-pub pages_told : (n : ℕ) (t : Bool) → eqb (n % 340) 22 && leb 1 (n / 340) && leb (n / 340) 4_096 ≡ t → sized t (n / 340) ≡ image_pages n
+pub pages_told : (n : ℕ) → then_some (eqb (n % 340) 22 && leb 1 (n / 340) && leb (n / 340) 4_096) (n / 340) ≡ image_pages n
 unfolding image_pages
-pages_told n t e = rw (← e, rest_so n)
+pages_told n = rw (rest_so n)
 
 -- the words of the trailer, one by one
 pub words_told :

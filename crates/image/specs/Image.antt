@@ -1,9 +1,8 @@
 -- RULES.md, section 6, and refusals 7 and 8. The form's number is a parameter throughout.
-use Rattle.std.specs.Prelude.{Bool, true, false, ◌&&◌, List, ◌++◌, ℕ, ◌+◌, ◌*◌, ◌-◌, ◌/◌, leb, eqb, length, take, drop}
+use Rattle.std.specs.Prelude.{Option, Bool, ◌&&◌, List, ◌++◌, ℕ, ◌+◌, ◌*◌, ◌-◌, ◌/◌, leb, eqb, length, take, drop}
+use Rattle.std.specs.Bool.{then_some}
 use Rattle.image.specs.Bytes.{bytes16, bytes32, number, word_bytes, byte_words}
 use Rattle.image.specs.declared.trailer.Trailer.{Trailer}
-use Rattle.image.specs.declared.ImagePages.{ImagePages}
-use Rattle.image.specs.declared.ImagePages.TheVariants.{Pages, WrongSize}
 use Rattle.pages.specs.Layout.{page_words, most_pages, pages_in}
 use Rattle.pages.specs.declared.Small.{Small}
 
@@ -45,12 +44,8 @@ unfoldable pub image_of : ℕ → List ℕ → Small → List ℕ
 image_of form table small = word_bytes table ++ trailer_bytes (trailer_for form (pages_in table) small)
 
 -- Rule 7.7: refusal 7 is given for an image whose length fits no P from 1 to 4,096.
-abbrev pub sized : Bool → ℕ → ImagePages
-sized true pages = Pages pages
-sized false pages = WrongSize
-
-unfoldable pub image_pages : ℕ → ImagePages
-image_pages n = sized (eqb n (image_length (n / page_bytes)) && leb 1 (n / page_bytes) && leb (n / page_bytes) most_pages) (n / page_bytes)
+unfoldable pub image_pages : ℕ → Option ℕ
+image_pages n = then_some (eqb n (image_length (n / page_bytes)) && leb 1 (n / page_bytes) && leb (n / page_bytes) most_pages) (n / page_bytes)
 
 -- Rules 6.1, 6.7: the table is all but the last 22 bytes.
 unfoldable pub table_of : List ℕ → List ℕ

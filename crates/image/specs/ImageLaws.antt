@@ -1,13 +1,13 @@
 -- The image, there and back: what is saved is loaded, and what is loaded is saved as it was. Its length tells its pages.
-use Rattle.std.specs.Prelude.{Bool, true, false, ◌&&◌, ◌≡◌, refl, List, ◌++◌, ℕ, ◌+◌, ◌*◌, ◌-◌, ◌/◌, ◌≤◌, ◌<◌, leb, eqb, length, take, drop}
+use Rattle.std.specs.Prelude.{Some, None, Bool, true, false, ◌&&◌, ◌≡◌, refl, List, ◌++◌, ℕ, ◌+◌, ◌*◌, ◌-◌, ◌/◌, ◌≤◌, ◌<◌, leb, eqb, length, take, drop}
 use Rattle.std.proofs.Common.{sym, ap, ◌∙◌, arith, eqb-true, leb-true, eq-eqb, le-leb, length-append, length-take, length-drop, take-append-drop, take_at, drop_at}
 use Rattle.ground.specs.Tests.{three, joint_three}
 use Rattle.image.specs.Bytes.{word_bytes}
 use Rattle.image.specs.ByteLaws.{Below, below_take, below_drop, length_word_bytes, length_byte_words, byte_words_word_bytes, word_bytes_byte_words}
 use Rattle.pages.specs.Layout.{page_words, most_pages, pages_in}
-use Rattle.image.specs.Image.{page_bytes, trailer_length, image_length, image_of, image_pages, pages_back, sized, small_of, table_of, trailer_bytes, trailer_for, trailer_good, trailer_in, trailer_of}
+use Rattle.std.specs.Bool.{then_some}
+use Rattle.image.specs.Image.{page_bytes, trailer_length, image_length, image_of, image_pages, pages_back, small_of, table_of, trailer_bytes, trailer_for, trailer_good, trailer_in, trailer_of}
 use Rattle.image.specs.TrailerLaws.{Fitting, good, good_so, length_trailer_bytes, trailer_bytes_trailer_in, trailer_in_trailer_bytes}
-use Rattle.image.specs.declared.ImagePages.TheVariants.{Pages, WrongSize}
 use Rattle.image.specs.declared.trailer.Trailer.{Trailer}
 use Rattle.pages.specs.declared.Small.{Small}
 
@@ -17,7 +17,7 @@ pub record Sized (n pages : ℕ) : Type 0 where
   pub least : 1 ≤ pages
   pub most : pages ≤ most_pages
 
-pub pages_of_length : (n pages : ℕ) → Sized n pages → image_pages n ≡ Pages pages
+pub pages_of_length : (n pages : ℕ) → Sized n pages → image_pages n ≡ Some pages
 unfolding image_pages
 pages_of_length n pages h =
     let same : n / page_bytes ≡ pages = omega arith in
@@ -25,11 +25,11 @@ pages_of_length n pages h =
     joint_three (eqb n (image_length pages)) (leb 1 pages) (leb pages most_pages) (eq-eqb n (image_length pages) h.length) (le-leb 1 pages h.least) (le-leb pages most_pages h.most) in
     rw (same, fits)
 
-pub length_of_pages : (n pages : ℕ) → image_pages n ≡ Pages pages → Sized n pages
+pub length_of_pages : (n pages : ℕ) → image_pages n ≡ Some pages → Sized n pages
 unfolding image_pages
 length_of_pages n pages e = by_test (eqb n (image_length (n / page_bytes)) && leb 1 (n / page_bytes) && leb (n / page_bytes) most_pages) refl e
   where
-    by_test : (t : Bool) → eqb n (image_length (n / page_bytes)) && leb 1 (n / page_bytes) && leb (n / page_bytes) most_pages ≡ t → sized t (n / page_bytes) ≡ Pages pages → Sized n pages
+    by_test : (t : Bool) → eqb n (image_length (n / page_bytes)) && leb 1 (n / page_bytes) && leb (n / page_bytes) most_pages ≡ t → then_some t (n / page_bytes) ≡ Some pages → Sized n pages
     by_test true f g =
         let same : n / page_bytes ≡ pages = cc in
         let h = three (eqb n (image_length (n / page_bytes))) (leb 1 (n / page_bytes)) (leb (n / page_bytes) most_pages) f in
@@ -39,7 +39,7 @@ length_of_pages n pages e = by_test (eqb n (image_length (n / page_bytes)) && le
         record { length = omega arith; least = omega arith; most = omega arith }
     by_test false f g = let z : ◌≡◌ {A = ℕ} 0 1 = cc in absurd (omega arith)
 
-pub no_pages : (n pages : ℕ) → image_pages n ≡ WrongSize → Sized n pages → ⊥
+pub no_pages : (n pages : ℕ) → image_pages n ≡ None → Sized n pages → ⊥
 no_pages n pages e h = let z : ◌≡◌ {A = ℕ} 0 1 = cc (pages_of_length n pages h) in omega arith
 
 pub length_image_of : (form : ℕ) (table : List ℕ) (small : Small) → length (image_of form table small) ≡ 2 * length table + trailer_length

@@ -13,24 +13,13 @@ pub use trailer::Trailer;
 use trailer::trailer_words;
 use words::{read_words, write_words};
 
-// How many pages an image of some length has.
-#[derive(Clone, Copy)]
-pub enum ImagePages {
-    Pages(usize),
-    // Refusal 7: the length fits no number of pages that a book may have.
-    WrongSize,
-}
-
-pub fn image_pages(length: usize) -> ImagePages
+// How many pages an image of some length has. None is refusal 7: the length fits no number of pages that a book may have.
+pub fn image_pages(length: usize) -> Option<usize>
     ensures { result ≡ image_pages length }
 {
     let pages = length / Page::IMAGE_BYTES;
     let fits = length % Page::IMAGE_BYTES == Trailer::BYTES;
-    if fits & (1 <= pages) & (pages <= Page::MOST) {
-        ImagePages::Pages(pages)
-    } else {
-        ImagePages::WrongSize
-    }
+    (fits & (1 <= pages) & (pages <= Page::MOST)).then_some(pages)
 }
 
 // Saves a book into a buffer of the image's length.

@@ -1,13 +1,13 @@
 // The trailer of an image: what stands after its last page, and points back to the root page.
 // Its 22 bytes are eleven words, so they go through the loops that the table's go through.
-ghost use Rattle.std.specs.Prelude.{◌≡◌, ◌+◌, ◌*◌, ◌-◌, ◌/◌, ◌%◌, ◌^◌, ◌≤◌, ◌<◌, length};
+ghost use Rattle.std.specs.Prelude.{◌≡◌, ◌+◌, ◌*◌, ◌/◌, ◌%◌, ◌^◌, ◌≤◌, ◌<◌, length};
 ghost use Rattle.image.specs.Bytes.{word_bytes};
 ghost use Rattle.image.specs.Image.{page_bytes, trailer_length, trailer_bytes, trailer_for, trailer_of, trailer_good, small_of};
 
 use crate::words::read_words;
 use pages::{Page, Small};
 
-#[derive(Clone, Copy)]
+#[derive(Clone, Copy, Debug, Default, PartialEq, Eq)]
 pub struct Trailer {
     // In bytes, from the trailer's start back to the root page.
     pub distance: u32,
@@ -52,7 +52,7 @@ impl Trailer {
         let distance = self.distance as usize;
         let back = distance / Page::IMAGE_BYTES;
         (self.form == form)
-            & (self.pages as usize == pages)
+            & (usize::from(self.pages) == pages)
             & ((distance == Page::IMAGE_BYTES * back) & (1 <= back) & (back <= pages))
     }
 
@@ -60,10 +60,10 @@ impl Trailer {
     pub fn small(self) -> Small
         ensures { result ≡ small_of self }
     {
-        let back = self.distance as usize / Page::IMAGE_BYTES;
+        let back = self.distance / Page::IMAGE_BYTES as u32;
         Small {
-            root: less(self.pages as usize, back) as u32,
-            height: self.height as u32,
+            root: u32::from(self.pages).saturating_sub(back),
+            height: u32::from(self.height),
             accepted: self.accepted,
             struck: self.struck,
             covered: self.covered,
@@ -76,7 +76,7 @@ pub fn trailer_words(pages: usize, small: Small, form: u16) -> [u16; Trailer::WO
     requires { page_bytes * pages < 2 ^ 64 }
     ensures { word_bytes result ≡ trailer_bytes (trailer_for form pages small) }
 {
-    let distance = Page::IMAGE_BYTES * less(pages, small.root as usize);
+    let distance = Page::IMAGE_BYTES * pages.saturating_sub(small.root as usize);
     let accepted = small.accepted as usize;
     let struck = small.struck as usize;
     let covered = small.covered as usize;
@@ -95,6 +95,7 @@ pub fn trailer_words(pages: usize, small: Small, form: u16) -> [u16; Trailer::WO
     ]
 }
 
+// A number is cut to its low four bytes, whatever it is. By way of bytes a half would be four of `to_le_bytes`, cut and put together again.
 fn low_word(x: usize) -> u16
     ensures { result ≡ x % 65536 }
 {
@@ -110,12 +111,5 @@ fn high_word(x: usize) -> u16
 fn long(low: u16, high: u16) -> u32
     ensures { result ≡ low + 65536 * high }
 {
-    low as u32 + 65536 * (high as u32)
-}
-
-// The first number less the second, and 0 where the second is greater.
-fn less(a: usize, b: usize) -> usize
-    ensures { result ≡ a - b }
-{
-    if b <= a { a - b } else { 0 }
+    u32::from(low) + 65536 * u32::from(high)
 }

@@ -1,15 +1,15 @@
 -- RULES.md, section 7: clearing, counting, saving and loading.
-use Rattle.std.specs.Prelude.{ℕ, ◌*◌, not, cond, List, eqb, length}
+use Rattle.std.specs.Prelude.{Some, None, Option, Ok, Err, Result, ℕ, ◌*◌, not, cond, List, eqb, length}
+use Rattle.ground.specs.Refusals.{number}
+use Rattle.ground.specs.declared.refusals.Refusal.{Refusal}
+use Rattle.ground.specs.declared.refusals.Refusal.TheVariants as no
 use Rattle.image.specs.Image.{image_form, image_length, image_of, image_pages, trailer_of, trailer_good, small_of, table_of as image_table}
-use Rattle.image.specs.declared.ImagePages.{ImagePages}
-use Rattle.image.specs.declared.ImagePages.TheVariants.{Pages, WrongSize}
 use Rattle.pages.specs.Free.{empty_table, empty_small}
 use Rattle.pages.specs.Layout.{page_words, pages_in, table_fits, pages_of}
 use Rattle.pages.specs.declared.Small.{Small}
 use Rattle.wellformed.specs.WellFormed.{held_records, well_formed}
 use Rattle.rules.specs.Record.{first_of}
-use Rattle.index.specs.declared.Counted.{Counted}
-use Rattle.index.specs.declared.Counted.TheVariants.{Refused, Counts}
+use Rattle.index.specs.declared.Counts.{Counts}
 
 -- What clearing and loading leave: the refusal's number, 0 for none, the table and the small record.
 pub record Left : Type 0 where
@@ -41,17 +41,16 @@ abbrev pub count_answer : List ℕ → Small → CountSaid
 count_answer t s = cond (table_fits t) (cond (well_formed t s) (numbers_of t s) (NotCounted 4)) (NotCounted 1)
 
 -- The number and the values of each case of the code's answer.
-abbrev pub count_says : Counted → CountSaid
-count_says (Refused number) = NotCounted number
-count_says (Counts accepted held struck covered) = Numbers accepted held struck covered
+abbrev pub count_says : Result Counts Refusal → CountSaid
+count_says (Err refusal) = NotCounted (number refusal)
+count_says (Ok n) = Numbers n.accepted n.held n.struck n.covered
 
 -- The case that says it: no other does (`count_is` in CallLaws).
-abbrev pub case_of : CountSaid → Counted
-case_of (NotCounted number) = Refused number
-case_of (Numbers accepted held struck covered) = Counts accepted held struck covered
+abbrev pub counts_of : List ℕ → Small → Counts
+counts_of t s = record { accepted = s.accepted; held = length (held_records (pages_of t) s); struck = s.struck; covered = s.covered }
 
-unfoldable pub counted : List ℕ → Small → Counted
-counted t s = case_of (count_answer t s)
+unfoldable pub counted : List ℕ → Small → Result Counts Refusal
+counted t s = cond (table_fits t) (cond (well_formed t s) (Ok (counts_of t s)) (Err no.Damaged)) (Err no.Table)
 
 -- Rules 7.24, 7.7: saving gives 1, 7, 4. The buffer must have the image's length.
 unfoldable pub save_refusal : List ℕ → Small → List ℕ → ℕ
@@ -70,9 +69,9 @@ unfoldable pub saved : List ℕ → Small → List ℕ → Saved
 saved t s out = let n = save_refusal t s out in record { refusal = n; buffer = cond (eqb n 0) (image_of image_form t s) out }
 
 -- Rules 7.25, 7.1, 7.8: loading gives 7, 1, 8 and 4. P is the number of pages that the image's length tells.
-abbrev pub pages_refusal : List ℕ → List ℕ → ImagePages → ℕ
-pages_refusal image t WrongSize = 7
-pages_refusal image t (Pages p) =
+abbrev pub pages_refusal : List ℕ → List ℕ → Option ℕ → ℕ
+pages_refusal image t None = 7
+pages_refusal image t (Some p) =
     first_of (not (eqb (length t) (page_words * p))) 1
     (first_of (not (trailer_good image_form p (trailer_of image))) 8
     0)

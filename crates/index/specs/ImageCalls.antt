@@ -1,5 +1,5 @@
 -- Saving and loading as calls: a book saved and loaded comes back the same, and an image that loads is saved as the same bytes.
-use Rattle.std.specs.Prelude.{ℕ, ◌+◌, ◌*◌, ◌<◌, ◌≤◌, Bool, true, false, not, cond, List, ◌≡◌, refl, leb, ltb, eqb, length}
+use Rattle.std.specs.Prelude.{Some, ℕ, ◌+◌, ◌*◌, ◌<◌, ◌≤◌, Bool, true, false, not, cond, List, ◌≡◌, refl, leb, ltb, eqb, length}
 use Rattle.std.proofs.Common.{sym, ap, ap₂, ◌∙◌, arith, eqb-true, leb-true, ltb-true, eq-eqb}
 use Rattle.std.proofs.lemmas.Bool.{eqb-false}
 use Rattle.ground.specs.Tests.{both, three}
@@ -7,8 +7,6 @@ use Rattle.image.specs.ByteLaws.{Below}
 use Rattle.image.specs.Image.{image_form, image_length, image_of, image_pages, trailer_of, trailer_good, small_of, table_of as image_table}
 use Rattle.image.specs.ImageLaws.{Sized, pages_of_length, length_of_pages, image_length_lem, table_length, Savable, loaded_table, loaded_good, loaded_small, saved_again}
 use Rattle.image.specs.TrailerLaws.{first_form}
-use Rattle.image.specs.declared.ImagePages.{ImagePages}
-use Rattle.image.specs.declared.ImagePages.TheVariants.{Pages, WrongSize}
 use Rattle.pages.specs.Facts.{fitting}
 use Rattle.pages.specs.Layout.{most_pages, page_words, pages_in, table_fits, pages_of}
 use Rattle.pages.specs.LayoutLaws.{pages_length, pages_at, level_in}
@@ -41,12 +39,12 @@ savable t s w words =
     }
 
 -- an image of so many pages, for a table of as many, with a good trailer
-not_refused : (image t : List ℕ) (p : ℕ) → image_pages (length image) ≡ Pages p → length t ≡ page_words * p → trailer_good image_form p (trailer_of image) ≡ true → image_refusal image t ≡ 0
+not_refused : (image t : List ℕ) (p : ℕ) → image_pages (length image) ≡ Some p → length t ≡ page_words * p → trailer_good image_form p (trailer_of image) ≡ true → image_refusal image t ≡ 0
 unfolding image_refusal
 not_refused image t p e l g = rw (e, eq-eqb (length t) (page_words * p) l, g)
 
 -- an image of form 1, of the right length and for a table of as many pages, is refused by 8
-pub first_form_refused : (image t : List ℕ) (p : ℕ) → image_pages (length image) ≡ Pages p → length t ≡ page_words * p → (trailer_of image).form ≡ 1 → image_refusal image t ≡ 8
+pub first_form_refused : (image t : List ℕ) (p : ℕ) → image_pages (length image) ≡ Some p → length t ≡ page_words * p → (trailer_of image).form ≡ 1 → image_refusal image t ≡ 8
 unfolding image_refusal
 first_form_refused image t p e l f = rw (e, eq-eqb (length t) (page_words * p) l, first_form p (trailer_of image) f)
 

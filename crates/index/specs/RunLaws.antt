@@ -1,5 +1,5 @@
 -- The third demand: over any run of calls, refused ones among them, each legal question answers what the full list answers.
-use Rattle.std.specs.Prelude.{ℕ, ◌*◌, max, Bool, not, cond, ◌≡◌, length, replicate}
+use Rattle.std.specs.Prelude.{Some, None, Option, ℕ, ◌*◌, max, Bool, not, cond, ◌≡◌, length, replicate}
 use Rattle.std.proofs.Math.Bool.{true, false}
 use mathlib.Core.List.{List, [], ◌∷◌, flat_map}
 use Rattle.std.proofs.Math.Path.{refl, ap}
@@ -13,8 +13,6 @@ use Rattle.asking.specs.ExactEntries.{All, none_touches, nothing_so}
 use Rattle.ground.specs.Boxes.{legal}
 use Rattle.ground.specs.declared.boxes.Box.{Box}
 use Rattle.image.specs.Image.{image_pages, trailer_good, trailer_of, image_form, table_of as image_table}
-use Rattle.image.specs.declared.ImagePages.{ImagePages}
-use Rattle.image.specs.declared.ImagePages.TheVariants.{Pages, WrongSize}
 use Rattle.pages.specs.Free.{empty_leaf, empty_small, empty_table}
 use Rattle.pages.specs.FreeLaws.{empty_pages_lem}
 use Rattle.pages.specs.Layout.{page_words, table_fits, pages_of, table_of, pages_in, free_page}
@@ -81,9 +79,9 @@ module _ (t : List ℕ) (s : Small) (l : List Entry) (h : Same t s l) where
       by_tests false true = refl
       by_tests false false = refl
 
-      by_pages : (k : ImagePages) → eqb (pages_refusal image t k) 4 ≡ false
-      by_pages WrongSize = refl
-      by_pages (Pages p) = by_tests (not (eqb (length t) (page_words * p))) (not (trailer_good image_form p (trailer_of image)))
+      by_pages : (k : Option ℕ) → eqb (pages_refusal image t k) 4 ≡ false
+      by_pages None = refl
+      by_pages (Some p) = by_tests (not (eqb (length t) (page_words * p))) (not (trailer_good image_form p (trailer_of image)))
 
   list_loaded : List ℕ → ℕ → List Entry
   list_loaded image n = cond (eqb n 0) (held_records (pages_of (image_table image)) (image_small image)) (cond (eqb n 4) [] l)

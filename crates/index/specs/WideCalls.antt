@@ -5,7 +5,8 @@ use Rattle.std.proofs.Math.Path.{refl, ap}
 use Rattle.std.proofs.Common.{sym, ap₂, ◌∙◌, arith, eqb-true, leb-true}
 use Rattle.std.proofs.lemmas.Bool.{eqb-false}
 use Rattle.asking.specs.Asking.{asked, answered, search_book}
-use Rattle.asking.specs.declared.Asked.TheVariants as ask
+use Rattle.std.specs.Prelude.{Err}
+use Rattle.ground.specs.declared.refusals.Refusal.TheVariants as no
 use Rattle.ground.specs.Boxes.{legal, gust_limit}
 use Rattle.ground.specs.declared.boxes.Box.{Box}
 use Rattle.wide.specs.Wide.{narrow, narrowed, as_given, narrow_legal, narrow_passes, narrow_keeps}
@@ -36,8 +37,8 @@ module _ (t : List ℕ) (s : Small) (x : WideBox) where
 
   pub ask_wide : asked t s (narrowed x) ≡ asked t s (as_given x)
   unfolding asked
-  ask_wide = rw (narrow_legal x) (ap (λ a. cond (table_fits t) a (ask.Refused 1)) (by_test (legal (as_given x)) refl))
+  ask_wide = rw (narrow_legal x) (ap (λ a. cond (table_fits t) a (Err no.Table)) (by_test (legal (as_given x)) refl))
     where
-      by_test : (c : Bool) → legal (as_given x) ≡ c → cond c (answered (search_book (pages_of t) s (narrowed x))) (ask.Refused 2) ≡ cond c (answered (search_book (pages_of t) s (as_given x))) (ask.Refused 2)
+      by_test : (c : Bool) → legal (as_given x) ≡ c → cond c (answered (search_book (pages_of t) s (narrowed x))) (Err no.Box) ≡ cond c (answered (search_book (pages_of t) s (as_given x))) (Err no.Box)
       by_test true e = ap (λ (b : Box). answered (search_book (pages_of t) s b)) (narrow_keeps x e)
       by_test false e = refl

@@ -3,22 +3,17 @@ ghost use Rattle.std.specs.Prelude.{◌≡◌};
 ghost use Rattle.index.specs.Calls.{cleared};
 ghost use Rattle.index.specs.CallLaws.{left_of};
 
-use crate::Ended;
+use ground::Refusal;
 use pages::Small;
 
 // Refusal 1.
-pub fn clear(t: &mut [u16], s: Small) -> Ended
-    ensures { left_of t.new result ≡ cleared t.old s }
+pub fn clear(t: &mut [u16], s: &mut Small) -> Result<(), Refusal>
+    ensures { left_of t.new s.new result ≡ cleared t.old s.old }
 {
     if !pages::table_fits(t) {
-        return Ended {
-            refusal: 1,
-            small: s,
-        };
+        return Err(Refusal::Table);
     }
     pages::clear(t);
-    Ended {
-        refusal: 0,
-        small: Small::empty(),
-    }
+    *s = Small::empty();
+    Ok(())
 }

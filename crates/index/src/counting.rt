@@ -2,24 +2,22 @@
 ghost use Rattle.std.specs.Prelude.{◌≡◌};
 ghost use Rattle.index.specs.Calls.{count_answer, count_says};
 
-use crate::Counted;
+use crate::Counts;
+use ground::Refusal;
 use pages::Small;
-use wellformed::Checked;
 
 // Refusals 1 and 4, in this order.
-pub fn count(t: &[u16], s: Small) -> Counted
+pub fn count(t: &[u16], s: Small) -> Result<Counts, Refusal>
     ensures { count_says result ≡ count_answer t.now s }
 {
     if !pages::table_fits(t) {
-        return Counted::Refused(1);
+        return Err(Refusal::Table);
     }
-    match wellformed::check(t, s) {
-        Checked::Held(held) => Counted::Counts {
-            accepted: s.accepted,
-            held,
-            struck: s.struck,
-            covered: s.covered,
-        },
-        Checked::Damaged => Counted::Refused(4),
-    }
+    let held = wellformed::check(t, s)?;
+    Ok(Counts {
+        accepted: s.accepted,
+        held,
+        struck: s.struck,
+        covered: s.covered,
+    })
 }

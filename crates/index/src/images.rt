@@ -1,72 +1,60 @@
 // Saving and loading the image.
-ghost use Rattle.std.specs.Prelude.{◌≡◌};
+ghost use Rattle.std.specs.Prelude.{◌≡◌, IfOk};
+ghost use Rattle.ground.specs.Refusals.{number_of};
+ghost use Rattle.image.specs.Image.{trailer_of};
 ghost use Rattle.index.specs.Calls.{saved, image_refusal, loaded};
 ghost use Rattle.index.specs.CallLaws.{left_of};
 
-use crate::Ended;
-use image::{ImagePages, Trailer};
+use ground::Refusal;
+use image::Trailer;
 use pages::{Page, Small};
-use wellformed::Checked;
 
-// Refusals 1, 7 and 4, in this order; 0 is none.
-pub fn save(t: &[u16], s: Small, out: &mut [u8]) -> u8
-    ensures { record { refusal = result; buffer = out.new } ≡ saved t.now s out.old }
+// Refusals 1, 7 and 4, in this order.
+pub fn save(t: &[u16], s: Small, out: &mut [u8]) -> Result<(), Refusal>
+    ensures { record { refusal = number_of result; buffer = out.new } ≡ saved t.now s out.old }
 {
     if !pages::table_fits(t) {
-        return 1;
+        return Err(Refusal::Table);
     }
     if out.len() != 2 * t.len() + Trailer::BYTES {
-        return 7;
+        return Err(Refusal::Size);
     }
-    match wellformed::check(t, s) {
-        Checked::Held(_) => {
-            image::encode(t, s, Trailer::FORM, out);
-            0
-        }
-        Checked::Damaged => 4,
-    }
+    wellformed::check(t, s)?;
+    image::encode(t, s, Trailer::FORM, out);
+    Ok(())
 }
 
-// Refusals 7, 1 and 8, in this order, before anything is written.
-fn image_refusal(image: &[u8], t: &[u16]) -> u8
-    ensures { result ≡ image_refusal image.now t.now }
+// The trailer of an image for this table. Refusals 7, 1 and 8, in this order, before anything is written.
+fn trailer_for(image: &[u8], t: &[u16]) -> Result<Trailer, Refusal>
+    ensures number { number_of result ≡ image_refusal image.now t.now }
+    ensures trailer { IfOk result (λ x. x ≡ trailer_of image.now) }
 {
-    match image::image_pages(image.len()) {
-        ImagePages::WrongSize => 7,
-        ImagePages::Pages(pages) => {
-            if t.len() != Page::WORDS * pages {
-                return 1;
-            }
-            let trailer = Trailer::read(image);
-            if !trailer.good(Trailer::FORM, pages) {
-                return 8;
-            }
-            0
-        }
+    let pages = image::image_pages(image.len()).ok_or(Refusal::Size)?;
+    if t.len() != Page::WORDS * pages {
+        return Err(Refusal::Table);
     }
+    let trailer = Trailer::read(image);
+    if !trailer.good(Trailer::FORM, pages) {
+        return Err(Refusal::Trailer);
+    }
+    Ok(trailer)
 }
 
 // Refusals 7, 1, 8 and 4, in this order. One that ends in 4 leaves the empty book.
-pub fn load(image: &[u8], t: &mut [u16], s: Small) -> Ended
-    ensures { left_of t.new result ≡ loaded image.now t.old s }
+pub fn load(image: &[u8], t: &mut [u16], s: &mut Small) -> Result<(), Refusal>
+    ensures { left_of t.new s.new result ≡ loaded image.now t.old s.old }
 {
-    let no = image_refusal(image, t);
-    if no != 0 {
-        return Ended {
-            refusal: no,
-            small: s,
-        };
-    }
+    let small = trailer_for(image, t)?.small();
     image::decode(image, t);
-    let small = Trailer::read(image).small();
     match wellformed::check(t, small) {
-        Checked::Held(_) => Ended { refusal: 0, small },
-        Checked::Damaged => {
+        Ok(_) => {
+            *s = small;
+            Ok(())
+        }
+        Err(refusal) => {
             pages::clear(t);
-            Ended {
-                refusal: 4,
-                small: Small::empty(),
-            }
+            *s = Small::empty();
+            Err(refusal)
         }
     }
 }

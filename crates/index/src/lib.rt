@@ -8,23 +8,12 @@ mod images;
 pub use clearing::clear;
 pub use counting::count;
 pub use images::{load, save};
-use pages::Small;
 
-// What clearing and loading leave beside the table: the refusal's number, 0 for none, and the small record.
-#[derive(Clone, Copy)]
-pub struct Ended {
-    pub refusal: u8,
-    pub small: Small,
-}
-
-#[derive(Clone, Copy)]
-pub enum Counted {
-    // The refusal's number, by rule 7.23.
-    Refused(u8),
-    Counts {
-        accepted: u32,
-        held: u32,
-        struck: u32,
-        covered: u32,
-    },
+// The four numbers of a book.
+#[derive(Clone, Copy, Debug, PartialEq, Eq)]
+pub struct Counts {
+    pub accepted: u32,
+    pub held: u32,
+    pub struck: u32,
+    pub covered: u32,
 }

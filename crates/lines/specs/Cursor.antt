@@ -1,76 +1,52 @@
--- How the code goes through a line: from a place to the end of the word there, and on to the place after it.
+-- How the code goes through a line: word after word, each read as what it must be.
 -- Nothing here has to be believed: the promise of `parse` speaks of `Lines` alone, and its proof shows that both agree.
-use Rattle.std.specs.Prelude.{ℕ, ◌+◌, Bool, ◌&&◌, ◌||◌, not, cond, List, [], ◌∷◌, leb, ltb, eqb, length, get_or, drop}
+use Rattle.std.specs.Prelude.{ℕ, cond, Option, Some, None, List, [], ◌∷◌, drop, Result, Ok, Err}
+use Rattle.std.specs.Borrow.{Bor}
+use Rattle.std.specs.Option.{option_map, option_and_then}
 use Rattle.ground.specs.Dates.{day_of}
-use Rattle.ground.specs.declared.dates.DayNumber.{DayNumber}
-use Rattle.ground.specs.declared.dates.DayNumber.TheVariants.{NoSuchDate}
-use Rattle.lines.specs.Lines.{Word, space, words, are_digits, number, is_dashed, date_in, Kind, a_number, a_date, is_a, value}
-use Rattle.lines.specs.declared.words.Digits.{Digits}
-use Rattle.lines.specs.declared.arguments.Argument.{Argument}
-use Rattle.lines.specs.declared.arguments.BoxRead.{BoxRead}
+use Rattle.ground.specs.declared.refusals.Refusal.{Refusal}
+use Rattle.wide.specs.declared.Span.{Span}
+use Rattle.wide.specs.declared.WideBox.{WideBox}
+use Rattle.lines.specs.Lines.{Word, words, are_digits, is_number, number, is_dashed, date_in, line_refusal}
 use Rattle.lines.specs.declared.reading.Line.{Line}
-use Rattle.lines.specs.declared.reading.Line.TheVariants.{Add, Ask, Refused}
 
--- The bytes up to the first space, and those from a place on.
-unfoldable pub first_word : List ℕ → Word
-first_word [] = []
-first_word (b ∷ bs) = cond (eqb b space) [] (b ∷ first_word bs)
+-- The words that are left: none once the last is read.
+abbrev pub words_left : Option (Bor (List ℕ)) → List Word
+words_left None = []
+words_left (Some rest) = words rest.now
 
-abbrev pub word_at : List ℕ → ℕ → Word
-word_at line place = first_word (drop place line)
+-- What a word says: as digits, as a number, as a date.
+abbrev pub digits_in : Word → Option ℕ
+digits_in w = cond (are_digits w) (Some (number w)) None
 
-abbrev pub in_word : List ℕ → ℕ → Bool
-in_word line place = ltb place (length line) && not (eqb (get_or line place 0) space)
+abbrev pub number_in : Word → Option ℕ
+number_in w = cond (is_number w) (Some (number w)) None
 
-abbrev pub word_end : List ℕ → ℕ → ℕ
-word_end line place = place + length (word_at line place)
+abbrev pub day_in : Word → Option ℕ
+day_in w = cond (is_dashed w) (day_of (date_in w)) None
 
--- The words from a place on: none past the end.
-unfoldable pub words_from : List ℕ → ℕ → List Word
-words_from line place = cond (leb place (length line)) (words (drop place line)) []
+-- The next words: an argument, the two ends of a span, a box.
+abbrev pub argument_next : (Word → Option ℕ) → List Word → Option ℕ
+argument_next says [] = None
+argument_next says (w ∷ ws) = says w
 
-abbrev pub digits_of : Word → Digits
-digits_of w = record { value = number w; all = are_digits w }
+abbrev pub span_next : Option ℕ → Option ℕ → Option Span
+span_next v w = option_and_then (λ low. option_map (λ high. record { low = low; high = high }) w) v
 
--- Ten bytes stand at a place, and after them a space or the line's end.
-abbrev pub ten_there : List ℕ → ℕ → Bool
-ten_there line place = leb (place + 10) (length line) && (eqb (place + 10) (length line) || eqb (get_or line (place + 10) 0) space)
+abbrev pub box_of : Option Span → Option Span → Option Span → Option WideBox
+box_of r s t = option_and_then (λ east. option_and_then (λ north. option_map (λ day. record { east = east; north = north; day = day }) t) s) r
 
-abbrev pub day_in : Word → DayNumber
-day_in w = cond (is_dashed w) (day_of (date_in w)) NoSuchDate
+abbrev pub box_next : List Word → Option WideBox
+box_next ws =
+    let w₁ = drop 1 ws in
+    let w₂ = drop 1 w₁ in
+    let w₃ = drop 1 w₂ in
+    let w₄ = drop 1 w₃ in
+    let w₅ = drop 1 w₄ in
+    box_of (span_next (argument_next number_in ws) (argument_next number_in w₁)) (span_next (argument_next number_in w₂) (argument_next number_in w₃)) (span_next (argument_next day_in w₄) (argument_next day_in w₅))
 
--- An argument: its value and the place after it; if it is none, the place is two past the end.
-abbrev pub not_read : List ℕ → Argument
-not_read line = record { value = 0; next = length line + 2 }
-
-unfoldable pub argument_at : Kind → List ℕ → ℕ → Argument
-argument_at k line place =
-    cond (leb place (length line) && is_a k (word_at line place)) (record { value = value k (word_at line place); next = word_end line place + 1 }) (not_read line)
-
-unfoldable pub box_at : List ℕ → ℕ → BoxRead
-box_at line place =
-    let a = argument_at a_number line place in
-    let b = argument_at a_number line a.next in
-    let c = argument_at a_number line b.next in
-    let d = argument_at a_number line c.next in
-    let e = argument_at a_date line d.next in
-    let f = argument_at a_date line e.next in
-    record {
-      typed = record { east = record { low = a.value; high = b.value }; north = record { low = c.value; high = d.value }; day = record { low = e.value; high = f.value } };
-      next = f.next;
-    }
-
--- A line is read once the place is one past its end.
-abbrev pub is_read : List ℕ → ℕ → Bool
-is_read line place = eqb place (length line + 1)
-
-unfoldable pub add_from : List ℕ → ℕ → Line
-add_from line place =
-    let b = box_at line place in
-    let g = argument_at a_number line b.next in
-    cond (is_read line g.next) (Add b.typed g.value) Refused
-
-unfoldable pub ask_from : List ℕ → ℕ → Line
-ask_from line place =
-    let b = box_at line place in
-    cond (is_read line b.next) (Ask b.typed) Refused
+-- The call that was read is the line's if no word is left.
+abbrev pub if_no_more : List Word → Option Line → Result Line Refusal
+if_no_more ws None = Err line_refusal
+if_no_more [] (Some l) = Ok l
+if_no_more (w ∷ ws) (Some l) = Err line_refusal

@@ -1,5 +1,5 @@
 -- The lines' definitions, to be read beside section 8 of RULES.md; the laws that the storey above cites; and, last,
--- how the code goes through a line and a buffer, which no public promise but its proof speaks of.
+-- how the code goes through a line, which no public promise but its proof speaks of.
 pub mod Lines
 pub mod Printing
 pub mod Examples

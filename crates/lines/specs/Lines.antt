@@ -1,12 +1,14 @@
 -- RULES.md, section 8: what a line asks for. A line is its bytes, without the byte 10 that ends it.
-use Rattle.std.specs.Prelude.{ℕ, ◌+◌, ◌-◌, ◌*◌, Bool, true, false, ◌&&◌, cond, List, [], ◌∷◌, leb, eqb, length, get_or, take, drop}
+use Rattle.std.specs.Prelude.{ℕ, ◌+◌, ◌-◌, ◌*◌, Bool, true, false, ◌&&◌, cond, List, [], ◌∷◌, leb, eqb, length, get_or, take, drop, Result, Ok, Err}
 use Prim.Native.Char.{code}
 use Prim.Native.String.{String, [] as no_text, ◌∷◌ as ◌then◌}
 use Rattle.ground.specs.Dates.{is_date, day_number}
 use Rattle.ground.specs.declared.dates.Date.{Date}
+use Rattle.ground.specs.declared.refusals.Refusal.{Refusal}
+use Rattle.ground.specs.declared.refusals.Refusal.TheVariants as no
 use Rattle.wide.specs.declared.WideBox.{WideBox}
 use Rattle.lines.specs.declared.reading.Line.{Line}
-use Rattle.lines.specs.declared.reading.Line.TheVariants.{Add, Ask, Count, Refused}
+use Rattle.lines.specs.declared.reading.Line.TheVariants.{Add, Ask, Count}
 
 abbrev pub Word : Type 0
 Word = List ℕ
@@ -120,24 +122,24 @@ same [] (b ∷ w) = false
 same (a ∷ v) [] = false
 same (a ∷ v) (b ∷ w) = eqb a b && same v w
 
+-- Rule 7.9: what a line of none of the forms is refused by.
+abbrev pub line_refusal : Refusal
+line_refusal = no.Line
+
 -- Rules 8.7, 8.8, 8.9, 8.10: a line of a command is its word, then its arguments. Any other line is refused.
-unfoldable pub command : Word → List Word → Line
+unfoldable pub command : Word → List Word → Result Line Refusal
 command w ws =
-    cond (same w (text "add") && are_a add_arguments ws) (Add (box_typed (values add_arguments ws)) (gust_typed (values add_arguments ws)))
-    (cond (same w (text "ask") && are_a ask_arguments ws) (Ask (box_typed (values ask_arguments ws)))
-    (cond (same w (text "count") && are_a count_arguments ws) Count Refused))
+    cond (same w (text "add") && are_a add_arguments ws) (Ok (Add (box_typed (values add_arguments ws)) (gust_typed (values add_arguments ws))))
+    (cond (same w (text "ask") && are_a ask_arguments ws) (Ok (Ask (box_typed (values ask_arguments ws))))
+    (cond (same w (text "count") && are_a count_arguments ws) (Ok Count) (Err line_refusal)))
 
-unfoldable pub command_of : List Word → Line
-command_of [] = Refused
+unfoldable pub command_of : List Word → Result Line Refusal
+command_of [] = Err line_refusal
 command_of (w ∷ ws) = command w ws
-
--- Rule 7.9: the number of the refusal that a line is refused by.
-abbrev pub line_refusal : ℕ
-line_refusal = 9
 
 -- Rules 8.3, 8.10: lines of at most 80 bytes; a longer one is refused.
 abbrev pub longest_line : ℕ
 longest_line = 80
 
-unfoldable pub parsed : List ℕ → Line
-parsed line = cond (leb (length line) longest_line) (command_of (words line)) Refused
+unfoldable pub parsed : List ℕ → Result Line Refusal
+parsed line = cond (leb (length line) longest_line) (command_of (words line)) (Err line_refusal)

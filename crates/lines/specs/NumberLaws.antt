@@ -1,5 +1,5 @@
 -- Numbers printed and read: the digits that are printed are read back as the same number.
-use Rattle.std.specs.Prelude.{true, List, [], ◌∷◌, ◌++◌, ◌≡◌, refl, ℕ, zero, suc, ◌+◌, ◌-◌, ◌*◌, ◌/◌, ◌%◌, ◌^◌, ◌≤◌, ◌<◌, leb, length}
+use Rattle.std.specs.Prelude.{true, List, [], ◌∷◌, ◌++◌, ◌≡◌, refl, ℕ, zero, suc, ◌+◌, ◌-◌, ◌*◌, ◌/◌, ◌%◌, ◌^◌, ◌≤◌, ◌<◌, max, leb, length}
 use Rattle.std.proofs.Common.{⊎_elim, arith, lt-ltb, le-ltb, le-leb, length-append}
 use Rattle.std.proofs.Math.Nat.{pow-succ'}
 use Rattle.ground.specs.Tests.{both, joint_three, ordered, below_or_not}
@@ -32,7 +32,7 @@ decimal_some m n =
     (λ (h : 10 ≤ n). rw (more_digits m n h) (omega (arith, length-append (decimal_of m (n / 10)) ((48 + n % 10) ∷ []))))
     (below_or_not n 10)
 
-pub tenth : (k n : ℕ) → n < 10 ^ suc k → n / 10 < 10 ^ k
+tenth : (k n : ℕ) → n < 10 ^ suc k → n / 10 < 10 ^ k
 tenth k n h = omega (arith, rw pow-succ' at h)
 
 decimal_needs : (m k n : ℕ) → n < 10 ^ suc k → length (decimal_of m n) ≤ suc k
@@ -47,6 +47,25 @@ decimal_needs (suc m) k n h =
     below : (j : ℕ) → 10 ≤ n → n / 10 < 10 ^ j → ((i : ℕ) → n / 10 < 10 ^ suc i → length (decimal_of m (n / 10)) ≤ suc i) → length (decimal_of m (n / 10)) ≤ j
     below zero l q more = absurd (omega arith)
     below (suc j) l q more = more j q
+
+-- and no fewer
+one_to_tens : (k : ℕ) → 1 ≤ 10 ^ k
+one_to_tens zero = omega arith
+one_to_tens (suc k) = rw pow-succ' (omega (arith, one_to_tens k))
+
+decimal_long : (m k n : ℕ) → k < m → 10 ^ k ≤ n → suc k ≤ length (decimal_of m n)
+decimal_long zero k n l h = absurd (omega arith)
+decimal_long (suc m) zero n l h = decimal_some m n
+decimal_long (suc m) (suc k) n l h =
+    let tens : 10 * 10 ^ k ≤ n = rw pow-succ' at h in
+    rw (more_digits m n (omega (arith, one_to_tens k))) (omega (arith, length-append (decimal_of m (n / 10)) ((48 + n % 10) ∷ []), decimal_long m k (n / 10) (omega arith) (omega arith)))
+
+pub digits_by_log : (k n some : ℕ) → some ≡ max n 1 → k < 10 → 10 ^ k ≤ some → some < 10 * 10 ^ k → k + 1 ≡ length (decimal n)
+digits_by_log zero n some e l h g = omega (arith, decimal_some 9 n, decimal_needs 10 0 n (omega arith))
+digits_by_log (suc k) n some e l h g =
+    let tens : 10 * 10 ^ k ≤ some = rw pow-succ' at h in
+    let few : n < 10 ^ suc (suc k) = rw pow-succ' (omega arith) in
+    omega (arith, decimal_long 10 (suc k) n l (omega (arith, one_to_tens k)), decimal_needs 10 (suc k) n few)
 
 -- they are digits, and they are the number's
 digits_last : (bs : List ℕ) (b : ℕ) → are_digits bs ≡ true → is_digit b ≡ true → are_digits (bs ++ (b ∷ [])) ≡ true

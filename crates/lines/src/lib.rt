@@ -5,6 +5,7 @@
 mod arguments;
 mod printing;
 mod reading;
+mod text;
 mod words;
 
 pub use printing::{Answer, print};

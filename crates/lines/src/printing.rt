@@ -1,10 +1,13 @@
 // Printing an answer into a lent buffer, from a place on.
-ghost use Rattle.std.specs.Prelude.{◌++◌, ◌≡◌, ◌+◌, ◌≤◌, length};
-ghost use Rattle.lines.specs.Printing.{decimal, line_end, printed, longest_answer, fits, Prints};
-ghost use Rattle.lines.specs.Filling.{last_digits, Puts};
+ghost use Rattle.std.specs.Prelude.{◌≡◌, ◌+◌, ◌<◌, ◌≤◌, length};
+ghost use Rattle.lines.specs.Printing.{numbered, longest_answer, Prints};
+ghost use Rattle.lines.specs.Filling.{Said};
+
+use crate::text::Text;
+use ground::Refusal;
 
 // What the book says to a line.
-#[derive(Clone, Copy)]
+#[derive(Clone, Copy, Debug, PartialEq, Eq)]
 pub enum Answer {
     // The struck count of a record that was kept whole.
     Kept(u32),
@@ -21,134 +24,65 @@ pub enum Answer {
         struck: u32,
         covered: u32,
     },
-    // The refusal's number.
-    Refused(u32),
 }
 
 impl Answer {
     // In bytes, with the one that ends it: four numbers of ten digits and their words.
     pub const LONGEST: usize = 73;
+
+    // All of its line but the end.
+    fn put(self, line: &mut Text)
+        requires { line.old.at + longest_answer ≤ length line.old.out.now }
+        ensures same_buffer { line.new.out.ghost_name ≡ line.old.out.ghost_name }
+        ensures said { Said (Ok self) line.old line.new }
+        ensures most { line.new.at < line.old.at + longest_answer }
+    {
+        match self {
+            Answer::Kept(struck) => line.push_labelled(b"kept struck ", struck),
+            Answer::Cut(struck) => line.push_labelled(b"cut struck ", struck),
+            Answer::Covered(struck) => line.push_labelled(b"covered struck ", struck),
+            Answer::Gust(tenths, pages) => {
+                line.push_labelled(b"gust ", tenths);
+                line.push_labelled(b" pages ", pages);
+            }
+            Answer::Nothing(pages) => line.push_labelled(b"nothing pages ", pages),
+            Answer::Counts {
+                accepted,
+                held,
+                struck,
+                covered,
+            } => {
+                line.push_labelled(b"accepted ", accepted);
+                line.push_labelled(b" held ", held);
+                line.push_labelled(b" struck ", struck);
+                line.push_labelled(b" covered ", covered);
+            }
+        }
+    }
 }
 
 // Prints an answer at a place and gives the place after it; nothing where the longest answer would not fit.
-pub fn print(answer: Answer, out: &mut [u8], at: usize) -> usize
-    ensures { Prints answer out.old out.new at result }
+pub fn print(said: Result<Answer, Refusal>, out: &mut [u8], at: usize) -> usize
+    ensures { Prints (numbered said) out.old out.new at result }
 {
-    if !has_room(out.len(), at) {
+    if out.len().saturating_sub(at) < Answer::LONGEST {
         return at;
     }
-    match answer {
-        Answer::Kept(struck) => one_number(out, at, b"kept struck ", struck),
-        Answer::Cut(struck) => one_number(out, at, b"cut struck ", struck),
-        Answer::Covered(struck) => one_number(out, at, b"covered struck ", struck),
-        Answer::Gust(tenths, pages) => two_numbers(out, at, tenths, pages),
-        Answer::Nothing(pages) => one_number(out, at, b"nothing pages ", pages),
-        Answer::Counts {
-            accepted,
-            held,
-            struck,
-            covered,
-        } => four_numbers(out, at, accepted, held, struck, covered),
-        Answer::Refused(number) => one_number(out, at, b"refused ", number),
-    }
+    let mut line = Text { out, at };
+    put(said, &mut line);
+    line.push(b"\n");
+    line.at
 }
 
-fn has_room(length: usize, at: usize) -> bool
-    ensures { result ≡ fits length at }
+// All of the line but its end.
+fn put(said: Result<Answer, Refusal>, line: &mut Text<'_>)
+    requires { line.old.at + longest_answer ≤ length line.old.out.now }
+    ensures same_buffer { line.new.out.ghost_name ≡ line.old.out.ghost_name }
+    ensures said { Said (numbered said) line.old line.new }
+    ensures most { line.new.at < line.old.at + longest_answer }
 {
-    if length < Answer::LONGEST {
-        return false;
-    }
-    at <= length - Answer::LONGEST
-}
-
-fn one_number(out: &mut [u8], at: usize, label: &[u8], n: u32) -> usize
-    requires { at + length label.now + 11 ≤ length out.old }
-    ensures { Puts ((label.now ++ decimal n) ++ line_end) out.old out.new at result }
-{
-    let end = put_labelled(out, at, label, n);
-    end_line(out, end)
-}
-
-fn two_numbers(out: &mut [u8], at: usize, tenths: u32, pages: u32) -> usize
-    requires { at + longest_answer ≤ length out.old }
-    ensures { Puts (printed (Answer.Gust tenths pages)) out.old out.new at result }
-{
-    let next = put_labelled(out, at, b"gust ", tenths);
-    let end = put_labelled(out, next, b" pages ", pages);
-    end_line(out, end)
-}
-
-fn four_numbers(
-    out: &mut [u8],
-    at: usize,
-    accepted: u32,
-    held: u32,
-    struck: u32,
-    covered: u32,
-) -> usize
-    requires { at + longest_answer ≤ length out.old }
-    ensures { Puts (printed (Answer.Counts accepted held struck covered)) out.old out.new at result }
-{
-    let second = put_labelled(out, at, b"accepted ", accepted);
-    let third = put_labelled(out, second, b" held ", held);
-    let fourth = put_labelled(out, third, b" struck ", struck);
-    let end = put_labelled(out, fourth, b" covered ", covered);
-    end_line(out, end)
-}
-
-fn put_labelled(out: &mut [u8], at: usize, label: &[u8], n: u32) -> usize
-    requires { at + length label.now + 10 ≤ length out.old }
-    ensures { Puts (label.now ++ decimal n) out.old out.new at result }
-{
-    let middle = at + label.len();
-    fill(&mut out[at..middle], label);
-    let end = middle + digit_count(n);
-    fill_digits(&mut out[middle..end], n);
-    end
-}
-
-fn end_line(out: &mut [u8], at: usize) -> usize
-    requires { at + 1 ≤ length out.old }
-    ensures { Puts line_end out.old out.new at result }
-{
-    out[at] = b'\n';
-    at + 1
-}
-
-fn fill(out: &mut [u8], bytes: &[u8])
-    requires { length out.old ≡ length bytes.now }
-    ensures { out.new ≡ bytes.now }
-{
-    let mut i = 0;
-    while i < bytes.len() {
-        out[i] = bytes[i];
-        i += 1;
-    }
-}
-
-// How many digits a number is printed with.
-fn digit_count(n: u32) -> usize
-    ensures { result ≡ length (decimal n) }
-{
-    let mut count = 1;
-    let mut rest = n;
-    while 10 <= rest {
-        rest /= 10;
-        count += 1;
-    }
-    count
-}
-
-// Fills a part with as many of a number's last digits as it has bytes.
-fn fill_digits(out: &mut [u8], n: u32)
-    ensures { out.new ≡ last_digits (length out.old) n }
-{
-    let mut k = out.len();
-    let mut rest = n;
-    while 0 < k {
-        k -= 1;
-        out[k] = 48 + (rest % 10) as u8;
-        rest /= 10;
+    match said {
+        Ok(answer) => answer.put(line),
+        Err(refusal) => line.push_labelled(b"refused ", u32::from(refusal)),
     }
 }

@@ -1,21 +1,19 @@
 // Reading a line: a command's word, its arguments, and the call that they make.
 ghost use Rattle.std.specs.Prelude.{◌≡◌};
-ghost use Rattle.lines.specs.Lines.{parsed};
-ghost use Rattle.lines.specs.Cursor.{add_from, ask_from};
+ghost use Rattle.lines.specs.Lines.{parsed, command_of};
+ghost use Rattle.lines.specs.Cursor.{if_no_more};
 
-use crate::arguments::{box_at, number_at};
-use crate::words::{same_word, word_end};
+use crate::words::Words;
+use ground::Refusal;
 use wide::WideBox;
 
 // What a line asks for.
-#[derive(Clone, Copy)]
+#[derive(Clone, Copy, Debug, PartialEq, Eq)]
 pub enum Line {
     // A box and a gust.
     Add(WideBox, u32),
     Ask(WideBox),
     Count,
-    // Refusal 9: the line has none of the forms.
-    Refused,
 }
 
 impl Line {
@@ -23,45 +21,44 @@ impl Line {
     pub const LONGEST: usize = 80;
 }
 
+const ADD: &[u8] = b"add";
+
+const ASK: &[u8] = b"ask";
+
+const COUNT: &[u8] = b"count";
+
 // The call that a line is. The byte that ends it is no part of it.
-pub fn parse(line: &[u8]) -> Line
+pub fn parse(line: &[u8]) -> Result<Line, Refusal>
     ensures { result ≡ parsed line.now }
 {
     if Line::LONGEST < line.len() {
-        return Line::Refused;
+        return Err(Refusal::Line);
     }
-    let end = word_end(line, 0);
-    if same_word(&line[..end], b"add") {
-        return add_from(line, end + 1);
+    let mut words = Words::of(line);
+    let call = call(&mut words).ok_or(Refusal::Line)?;
+    match words.next() {
+        None => Ok(call),
+        // A word too many.
+        Some(_) => Err(Refusal::Line),
     }
-    if same_word(&line[..end], b"ask") {
-        return ask_from(line, end + 1);
-    }
-    if same_word(line, b"count") {
-        return Line::Count;
-    }
-    Line::Refused
 }
 
-fn add_from(line: &[u8], at: usize) -> Line
-    ensures { result ≡ add_from line.now at }
+// The call that the first words are. Each command has its own arguments, so there is no one step to hand in.
+fn call(words: &mut Words<'_>) -> Option<Line>
+    ensures { if_no_more words.new result ≡ command_of words.old }
 {
-    let read = box_at(line, at);
-    let gust = number_at(line, read.next);
-    if gust.next != line.len() + 1 {
-        return Line::Refused;
+    let command = words.next()?;
+    if command == ADD {
+        let typed = words.typed()?;
+        let gust = words.number()?;
+        return Some(Line::Add(typed, gust));
     }
-    let typed = read.typed;
-    Line::Add(typed, gust.value)
-}
-
-fn ask_from(line: &[u8], at: usize) -> Line
-    ensures { result ≡ ask_from line.now at }
-{
-    let read = box_at(line, at);
-    if read.next != line.len() + 1 {
-        return Line::Refused;
+    if command == ASK {
+        let typed = words.typed()?;
+        return Some(Line::Ask(typed));
     }
-    let typed = read.typed;
-    Line::Ask(typed)
+    if command == COUNT {
+        return Some(Line::Count);
+    }
+    None
 }

@@ -1,74 +1,48 @@
-// The words of a line, read where they lie: where a word ends, whether it is a given one, and what its digits say.
-ghost use Rattle.std.specs.Prelude.{◌≡◌, ◌-◌, ◌≤◌, length};
-ghost use Rattle.lines.specs.Lines.{is_digit, same};
-ghost use Rattle.lines.specs.Cursor.{in_word, word_end, digits_of};
+// The words of a line, one after the other, parted by one space.
+ghost use Rattle.std.specs.Prelude.{◌≡◌, [], ◌∷◌, ◌==◌, List, position, MatchOption};
+ghost use Rattle.lines.specs.Lines.{Word, words, space};
+ghost use Rattle.lines.specs.Cursor.{words_left};
 
-// What bytes say as digits: their value, and whether all of them are digits.
-#[derive(Clone, Copy)]
-pub struct Digits {
-    pub value: u32,
-    pub all: bool,
+use std::marker::Model;
+
+// What is left of a line: nothing once its last word is read. The library's `split` would need its closure's type in every signature.
+#[derive(Drop)]
+pub struct Words<'a> {
+    rest: Option<&'a [u8]>,
 }
 
-// Where the word that starts at a place ends: at the next space, or at the line's end.
-pub fn word_end(line: &[u8], at: usize) -> usize
-    ensures { result ≡ word_end line.now at }
-{
-    let mut i = at;
-    while in_word(line, i) {
-        i += 1;
+impl<'a> Model for Words<'a> {
+    ghost Value = { List Word };
+
+    ghost view = { λ w. words_left w.rest };
+}
+
+impl<'a> Words<'a> {
+    pub fn of(line: &'a [u8]) -> Words<'a>
+        ensures { result ≡ words line.now }
+    {
+        Words { rest: Some(line) }
     }
-    i
-}
 
-fn in_word(line: &[u8], i: usize) -> bool
-    ensures { result ≡ in_word line.now i }
-{
-    if line.len() <= i {
-        return false;
+    pub fn next(&mut self) -> Option<&'a [u8]>
+        ensures { MatchOption result ((self.old ≡ []) × (self.new ≡ [])) (λ word. self.old ≡ word.now ∷ self.new) }
+    {
+        let rest = self.rest?;
+        match first_space(rest) {
+            Some(end) => {
+                self.rest = Some(&rest[end + 1..]);
+                Some(&rest[..end])
+            }
+            None => {
+                self.rest = None;
+                Some(rest)
+            }
+        }
     }
-    line[i] != b' '
 }
 
-pub fn same_word(word: &[u8], other: &[u8]) -> bool
-    ensures { result ≡ same word.now other.now }
+fn first_space(line: &[u8]) -> Option<usize>
+    ensures { result ≡ position (λ b. b == space) line.now }
 {
-    if word.len() != other.len() {
-        return false;
-    }
-    let mut ok = true;
-    let mut i = 0;
-    while i < word.len() {
-        ok = ok & (word[i] == other[i]);
-        i += 1;
-    }
-    ok
-}
-
-pub fn read_digits(word: &[u8]) -> Digits
-    requires { length word.now ≤ 5 }
-    ensures { result ≡ digits_of word.now }
-{
-    let mut value: u32 = 0;
-    let mut all = true;
-    let mut i = 0;
-    while i < word.len() {
-        let b = word[i];
-        value = 10 * value + digit_value(b);
-        all = all & is_digit(b);
-        i += 1;
-    }
-    Digits { value, all }
-}
-
-fn is_digit(b: u8) -> bool
-    ensures { result ≡ is_digit b }
-{
-    (48 <= b) & (b <= 57)
-}
-
-fn digit_value(b: u8) -> u32
-    ensures { result ≡ b - 48 }
-{
-    if 48 <= b { (b - 48) as u32 } else { 0 }
+    line.iter().position(|b| *b == b' ')
 }

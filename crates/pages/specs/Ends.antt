@@ -1,12 +1,10 @@
 -- The ends of boxes with the high ones turned upside down: all ends of a covering box are then the least of their kind.
 -- Nothing here has to be believed: it is how the code finds the box that `covering` says.
-use Rattle.std.specs.Prelude.{ℕ, ◌+◌, ◌-◌, ◌≤◌, ◌<◌, min, max, ◌≡◌, length, get_or, List}
+use Rattle.std.specs.Prelude.{ℕ, ◌-◌, ◌≤◌, min, max, ◌≡◌}
 use Rattle.std.proofs.Math.Path.{ap}
-use Rattle.std.proofs.Common.{◌∙◌, subst, arith}
+use Rattle.std.proofs.Common.{◌∙◌, arith}
 use Rattle.ground.specs.Boxes.{join}
 use Rattle.ground.specs.declared.boxes.Box.{Box}
-use Rattle.pages.specs.Facts.{InTable}
-use Rattle.pages.specs.Layout.{page_entries, box_at, entry_start, entry_at, entry_in}
 use Rattle.pages.specs.declared.summary.Ends.{Ends}
 
 abbrev pub turned : ℕ → ℕ
@@ -73,33 +71,10 @@ boxed_least b x h =
       day = record { low = min b.day.low x.day_low; high = d i };
     }
 
--- the ends read where they lie
-abbrev Turns : ℕ → ℕ → Type 0
-Turns h x = (x ≡ turned h) × (h ≤ 65_535)
+-- a box by its ends, alone and before others
+module _ (place : Box) (x : Ends) (h : (x ≡ ends_of place) × Narrow place) where
+  pub boxed_alone : boxed x ≡ place
+  boxed_alone = ap boxed h.0 ∙ boxed_ends place h.1
 
-pub ends_read :
-    (t : List ℕ) (k e n d : ℕ) → Turns (get_or t (k + 1) 0) e → Turns (get_or t (k + 3) 0) n → Turns (get_or t (k + 5) 0) d
-    → (◌≡◌ {A = Ends} (record { east_low = get_or t k 0; east_high = e; north_low = get_or t (k + 2) 0; north_high = n; day_low = get_or t (k + 4) 0; day_high = d }) (ends_of (box_at t k))) × Narrow (box_at t k)
-unfolding box_at
-ends_read t k e n d he hn hd =
-    let i : k + 3 ≡ k + 2 + 1 = omega arith in
-    let j : k + 5 ≡ k + 4 + 1 = omega arith in
-    let north : Turns (get_or t (k + 2 + 1) 0) n = subst (λ (m : ℕ). Turns (get_or t m 0) n) i hn in
-    let day : Turns (get_or t (k + 4 + 1) 0) d = subst (λ (m : ℕ). Turns (get_or t m 0) d) j hd in (
-      λ x. record { east_low = get_or t k 0; east_high = he.0 x; north_low = get_or t (k + 2) 0; north_high = north.0 x; day_low = get_or t (k + 4) 0; day_high = day.0 x },
-      record { east = he.1; north = north.1; day = day.1 },
-    )
-
--- an entry's box by its ends, alone and before others
-module _ (t : List ℕ) (p i k : ℕ) (at_entry_lem : k ≡ entry_start p i) where
-  pub ends_inside : InTable t p → i < page_entries → k + 6 ≤ length t
-  ends_inside h less = omega (arith, h.inside)
-
-  module _ (x : Ends) (h : (x ≡ ends_of (box_at t k)) × Narrow (box_at t k)) where
-    pub boxed_entry : boxed x ≡ (entry_in t p i).place
-    unfolding entry_at
-    boxed_entry = ap boxed h.0 ∙ boxed_ends (box_at t k) h.1 ∙ ap (box_at t) at_entry_lem
-
-    pub boxed_more : (y z : Ends) → y ≡ least x z → boxed y ≡ join (entry_in t p i).place (boxed z)
-    unfolding entry_at
-    boxed_more y z e = ap boxed (e ∙ ap (λ w. least w z) h.0) ∙ boxed_least (box_at t k) z h.1 ∙ ap (λ m. join (box_at t m) (boxed z)) at_entry_lem
+  pub boxed_more : (y z : Ends) → y ≡ least x z → boxed y ≡ join place (boxed z)
+  boxed_more y z e = ap boxed (e ∙ ap (λ w. least w z) h.0) ∙ boxed_least place z h.1

@@ -1,15 +1,12 @@
 -- Examples, each by computation.
-use Rattle.std.specs.Prelude.{List, [], ◌∷◌, ◌++◌, ◌≡◌, refl, ℕ, length, replicate}
+use Rattle.std.specs.Prelude.{Some, List, [], ◌∷◌, ◌≡◌, refl, ℕ, replicate}
 use Rattle.ground.specs.Boxes.{join, size}
-use Rattle.ground.specs.declared.boxes.Range.{Range}
 use Rattle.ground.specs.declared.boxes.Box.{Box}
 use Rattle.pages.specs.declared.Entry.{Entry}
 use Rattle.pages.specs.declared.Page.{Page}
-use Rattle.pages.specs.declared.FreePage.{FreePage}
-use Rattle.pages.specs.declared.FreePage.TheVariants.{At, NoPage}
-use Rattle.pages.specs.Layout.{box_at, entry_at, entries_of, page_of, page_at, words_of_box, words_of_entry, words_of_entries, words_of_page, put_page, cut_pages, pages_of, table_of, zero_box, zero_entry, free_page}
+use Rattle.pages.specs.Layout.{box_at, entry_at, entries_of, page_of, page_at, words_of_box, words_of_entry, words_of_entries, words_of_page, put_page, cut_pages, pages_of, zero_box, zero_entry}
 use Rattle.pages.specs.Summary.{covering, first_greatest, least_of, summary, summary_of}
-use Rattle.pages.specs.Free.{lowest_from, lowest_free, free_count, empty_leaf, empty_table}
+use Rattle.pages.specs.Free.{lowest_from, lowest_free, empty_table}
 
 -- one row of squares on one day
 abbrev row : ℕ → ℕ → Box
@@ -61,11 +58,11 @@ above_summed = refl
 abbrev cleared : List ℕ
 cleared = empty_table (replicate 30_600 0)
 
-pub first_free : lowest_free (pages_of cleared) ≡ At 1
+pub first_free : lowest_free (pages_of cleared) ≡ Some 1
 unfolding empty_table pages_of cut_pages page_of entries_of entry_at box_at lowest_from
 first_free = refl
 
-pub then_free : lowest_free (pages_of (put_page cleared 1 leaf)) ≡ At 2
+pub then_free : lowest_free (pages_of (put_page cleared 1 leaf)) ≡ Some 2
 unfolding empty_table put_page words_of_page words_of_entries words_of_entry words_of_box pages_of cut_pages page_of entries_of entry_at box_at lowest_from
 then_free = refl
 

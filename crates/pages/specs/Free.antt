@@ -1,21 +1,19 @@
 -- RULES.md, section 2: free pages, and the empty book.
-use Rattle.std.specs.Prelude.{ℕ, zero, suc, ◌+◌, Bool, cond, List, [], ◌∷◌, eqb, length, set, replicate}
+use Rattle.std.specs.Prelude.{Some, None, Option, ℕ, suc, ◌+◌, Bool, cond, List, [], ◌∷◌, eqb, length, set, replicate}
 use Rattle.pages.specs.Layout.{zero_entry, page_entries}
 use Rattle.pages.specs.declared.Small.{Small}
 use Rattle.pages.specs.declared.Page.{Page}
-use Rattle.pages.specs.declared.FreePage.{FreePage}
-use Rattle.pages.specs.declared.FreePage.TheVariants.{At, NoPage}
 
 -- Rule 2.11: a page of level 0 is free.
 abbrev pub is_free : Page → Bool
 is_free x = eqb x.level 0
 
 -- The free page of the lowest number, counted from n.
-unfoldable pub lowest_from : ℕ → List Page → FreePage
-lowest_from n [] = NoPage
-lowest_from n (x ∷ xs) = cond (is_free x) (At n) (lowest_from (suc n) xs)
+unfoldable pub lowest_from : ℕ → List Page → Option ℕ
+lowest_from n [] = None
+lowest_from n (x ∷ xs) = cond (is_free x) (Some n) (lowest_from (suc n) xs)
 
-abbrev pub lowest_free : List Page → FreePage
+abbrev pub lowest_free : List Page → Option ℕ
 lowest_free xs = lowest_from 0 xs
 
 -- How many pages are free.

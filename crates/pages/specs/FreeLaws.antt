@@ -1,10 +1,10 @@
 -- Laws of free pages and of the empty book.
-use Rattle.std.specs.Prelude.{Bool, true, false, cond, List, [], ◌∷◌, ◌++◌, ◌≡◌, refl, ℕ, zero, suc, ◌+◌, ◌*◌, ◌-◌, ◌≤◌, ◌<◌, leb, eqb, length, get_or, drop, set, replicate}
+use Rattle.std.specs.Prelude.{Some, None, Bool, true, false, cond, List, [], ◌∷◌, ◌++◌, ◌≡◌, refl, ℕ, zero, suc, ◌+◌, ◌*◌, ◌-◌, ◌≤◌, ◌<◌, leb, eqb, length, get_or, drop, set, replicate}
+use Rattle.std.specs.Int.{from_bool}
 use Rattle.std.proofs.Common.{sym, ap, ◌∙◌, subst, not-suc-le-zero, le_of_suc-le-suc, le_refl, add-one, arith, eq-eqb, ne_eqb, eqb-true, le-leb, leb-true, length-set, drop_of_length-le, drop-cons, drop_at}
 use Rattle.std.proofs.lemmas.List.{length-replicate, replicate-append-replicate}
 use Rattle.ground.specs.Tests.{same_test}
 use Rattle.pages.specs.declared.Page.{Page}
-use Rattle.pages.specs.declared.FreePage.TheVariants.{At, NoPage}
 use Rattle.pages.specs.Layout.{page_words, pages_in, table_fits, page_of, level_at, words_of_entries, words_of_entry, words_of_box, words_of_page, cut_pages, pages_of, free_page}
 use Rattle.pages.specs.Facts.{fitting}
 use Rattle.pages.specs.LayoutLaws.{fits_alike, level_in, page_read, pages_length, pages_at, free_words}
@@ -16,10 +16,10 @@ pub record LowestFree (xs : List Page) (p : ℕ) : Type 0 where
   pub free : is_free (get_or xs p free_page) ≡ true
   pub earlier : (q : ℕ) → q < p → is_free (get_or xs q free_page) ≡ false
 
-not_no_page : (n : ℕ) → NoPage ≡ At n → ⊥
+not_no_page : (n : ℕ) → None ≡ Some n → ⊥
 not_no_page n e = let z : ◌≡◌ {A = ℕ} 0 1 = cc in omega arith
 
-same_page : (m n : ℕ) → At m ≡ At n → m ≡ n
+same_page : (m n : ℕ) → Some m ≡ Some n → m ≡ n
 same_page m n e = cc
 
 first_free : (x : Page) (xs : List Page) → is_free x ≡ true → LowestFree (x ∷ xs) 0
@@ -34,61 +34,61 @@ later_free x xs p e h = record { within = omega (arith, h.within); free = h.free
     before zero l = e
     before (suc q) l = h.earlier q (le_of_suc-le-suc l)
 
-lowest_from_lem : (xs : List Page) (n r : ℕ) → lowest_from n xs ≡ At r → (p : ℕ) × (r ≡ n + p) × LowestFree xs p
+lowest_from_lem : (xs : List Page) (n r : ℕ) → lowest_from n xs ≡ Some r → (p : ℕ) × (r ≡ n + p) × LowestFree xs p
 unfolding lowest_from
 lowest_from_lem [] n r e = absurd (not_no_page r e)
 lowest_from_lem (x ∷ xs) n r e = by_test (is_free x) refl e (lowest_from_lem xs (suc n) r)
   where
-    by_test : (t : Bool) → is_free x ≡ t → cond t (At n) (lowest_from (suc n) xs) ≡ At r
-        → (lowest_from (suc n) xs ≡ At r → (p : ℕ) × (r ≡ suc n + p) × LowestFree xs p) → (p : ℕ) × (r ≡ n + p) × LowestFree (x ∷ xs) p
+    by_test : (t : Bool) → is_free x ≡ t → cond t (Some n) (lowest_from (suc n) xs) ≡ Some r
+        → (lowest_from (suc n) xs ≡ Some r → (p : ℕ) × (r ≡ suc n + p) × LowestFree xs p) → (p : ℕ) × (r ≡ n + p) × LowestFree (x ∷ xs) p
     by_test true f q rest = let m = same_page n r q in (0, omega arith, first_free x xs f)
     by_test false f q rest = let h = rest q in (suc h.0, omega (arith, h.1), later_free x xs h.0 f h.2)
 
-pub lowest_at : (xs : List Page) (p : ℕ) → lowest_free xs ≡ At p → LowestFree xs p
+pub lowest_at : (xs : List Page) (p : ℕ) → lowest_free xs ≡ Some p → LowestFree xs p
 lowest_at xs p e =
     let h = lowest_from_lem xs 0 p e in
     let q : h.0 ≡ p = omega (arith, h.1) in
     subst (λ (n : ℕ). LowestFree xs n) q h.2
 
-lowest_from_so : (xs : List Page) (p n : ℕ) → LowestFree xs p → lowest_from n xs ≡ At (n + p)
+lowest_from_so : (xs : List Page) (p n : ℕ) → LowestFree xs p → lowest_from n xs ≡ Some (n + p)
 unfolding lowest_from
 lowest_from_so [] p n h = absurd (not-suc-le-zero h.within)
 lowest_from_so (x ∷ xs) zero n h =
     let z : n ≡ n + 0 = omega arith in
-    ap (λ (t : Bool). cond t (At n) (lowest_from (suc n) xs)) h.free ∙ ap At z
+    ap (λ (t : Bool). cond t (Some n) (lowest_from (suc n) xs)) h.free ∙ ap Some z
 lowest_from_so (x ∷ xs) (suc p) n h =
     let z : suc n + p ≡ n + suc p = omega arith in
     let rest : (q : ℕ) → q < p → is_free (get_or xs q free_page) ≡ false = λ q l. h.earlier (suc q) (omega arith) in
-    ap (λ (t : Bool). cond t (At n) (lowest_from (suc n) xs)) (h.earlier 0 (omega arith))
+    ap (λ (t : Bool). cond t (Some n) (lowest_from (suc n) xs)) (h.earlier 0 (omega arith))
     ∙ lowest_from_so xs p (suc n) (record { within = omega (arith, h.within); free = h.free; earlier = rest })
-    ∙ ap At z
+    ∙ ap Some z
 
-pub lowest_so : (xs : List Page) (p : ℕ) → LowestFree xs p → lowest_free xs ≡ At p
-lowest_so xs p h = let z : 0 + p ≡ p = omega arith in lowest_from_so xs p 0 h ∙ ap At z
+pub lowest_so : (xs : List Page) (p : ℕ) → LowestFree xs p → lowest_free xs ≡ Some p
+lowest_so xs p h = let z : 0 + p ≡ p = omega arith in lowest_from_so xs p 0 h ∙ ap Some z
 
 -- there is one if and only if some page is free
-lowest_from_found : (xs : List Page) (n : ℕ) → 0 < free_count xs → (p : ℕ) × (lowest_from n xs ≡ At p)
+lowest_from_found : (xs : List Page) (n : ℕ) → 0 < free_count xs → (p : ℕ) × (lowest_from n xs ≡ Some p)
 unfolding lowest_from free_count
 lowest_from_found [] n h = absurd (not-suc-le-zero h)
 lowest_from_found (x ∷ xs) n h = by_test (is_free x) h (lowest_from_found xs (suc n))
   where
-    by_test : (t : Bool) → 0 < cond t 1 0 + free_count xs → (0 < free_count xs → (p : ℕ) × (lowest_from (suc n) xs ≡ At p)) → (p : ℕ) × (cond t (At n) (lowest_from (suc n) xs) ≡ At p)
+    by_test : (t : Bool) → 0 < cond t 1 0 + free_count xs → (0 < free_count xs → (p : ℕ) × (lowest_from (suc n) xs ≡ Some p)) → (p : ℕ) × (cond t (Some n) (lowest_from (suc n) xs) ≡ Some p)
     by_test true k rest = (n, refl)
     by_test false k rest = rest (omega arith)
 
-pub lowest_found : (xs : List Page) → 0 < free_count xs → (p : ℕ) × (lowest_free xs ≡ At p)
+pub lowest_found : (xs : List Page) → 0 < free_count xs → (p : ℕ) × (lowest_free xs ≡ Some p)
 lowest_found xs h = lowest_from_found xs 0 h
 
-lowest_from_none : (xs : List Page) (n : ℕ) → lowest_from n xs ≡ NoPage → free_count xs ≡ 0
+lowest_from_none : (xs : List Page) (n : ℕ) → lowest_from n xs ≡ None → free_count xs ≡ 0
 unfolding lowest_from free_count
 lowest_from_none [] n e = refl
 lowest_from_none (x ∷ xs) n e = by_test (is_free x) e (lowest_from_none xs (suc n))
   where
-    by_test : (t : Bool) → cond t (At n) (lowest_from (suc n) xs) ≡ NoPage → (lowest_from (suc n) xs ≡ NoPage → free_count xs ≡ 0) → cond t 1 0 + free_count xs ≡ 0
+    by_test : (t : Bool) → cond t (Some n) (lowest_from (suc n) xs) ≡ None → (lowest_from (suc n) xs ≡ None → free_count xs ≡ 0) → cond t 1 0 + free_count xs ≡ 0
     by_test true q rest = absurd (not_no_page n (sym q))
     by_test false q rest = omega (arith, rest q)
 
-pub lowest_none : (xs : List Page) → lowest_free xs ≡ NoPage → free_count xs ≡ 0
+pub lowest_none : (xs : List Page) → lowest_free xs ≡ None → free_count xs ≡ 0
 lowest_none xs e = lowest_from_none xs 0 e
 
 -- another page: what it was and what it is counts
@@ -123,17 +123,17 @@ level_free t p h = ap is_free (pages_at t p h) ∙ ap (λ (n : ℕ). eqb n 0) (l
 pages_from_lem : (t : List ℕ) (p : ℕ) → p < pages_in t → drop p (pages_of t) ≡ get_or (pages_of t) p free_page ∷ drop (suc p) (pages_of t)
 pages_from_lem t p h = drop-cons (pages_of t) p free_page (omega (arith, pages_length t))
 
-pub lowest_here : (t : List ℕ) (p : ℕ) → p < pages_in t → level_at t p ≡ 0 → lowest_from p (drop p (pages_of t)) ≡ At p
+pub lowest_here : (t : List ℕ) (p : ℕ) → p < pages_in t → level_at t p ≡ 0 → lowest_from p (drop p (pages_of t)) ≡ Some p
 unfolding lowest_from
 lowest_here t p h e =
-    rw (pages_from_lem t p h) (ap (λ (b : Bool). cond b (At p) (lowest_from (suc p) (drop (suc p) (pages_of t)))) (level_free t p h ∙ eq-eqb (level_at t p) 0 e))
+    rw (pages_from_lem t p h) (ap (λ (b : Bool). cond b (Some p) (lowest_from (suc p) (drop (suc p) (pages_of t)))) (level_free t p h ∙ eq-eqb (level_at t p) 0 e))
 
 pub lowest_on : (t : List ℕ) (p : ℕ) → p < pages_in t → (level_at t p ≡ 0 → ⊥) → lowest_from p (drop p (pages_of t)) ≡ lowest_from (p + 1) (drop (p + 1) (pages_of t))
 unfolding lowest_from
 lowest_on t p h e =
-    rw (add-one p, pages_from_lem t p h) (ap (λ (b : Bool). cond b (At p) (lowest_from (suc p) (drop (suc p) (pages_of t)))) (level_free t p h ∙ ne_eqb (level_at t p) 0 e))
+    rw (add-one p, pages_from_lem t p h) (ap (λ (b : Bool). cond b (Some p) (lowest_from (suc p) (drop (suc p) (pages_of t)))) (level_free t p h ∙ ne_eqb (level_at t p) 0 e))
 
-pub lowest_end : (t : List ℕ) (p : ℕ) → pages_in t ≤ p → lowest_from p (drop p (pages_of t)) ≡ NoPage
+pub lowest_end : (t : List ℕ) (p : ℕ) → pages_in t ≤ p → lowest_from p (drop p (pages_of t)) ≡ None
 unfolding lowest_from
 lowest_end t p h = rw (drop_of_length-le (pages_of t) {i = p} (omega (arith, pages_length t))) refl
 
@@ -146,16 +146,20 @@ unfolding lowest_from
 lowest_past xs zero h = refl
 lowest_past xs (suc n) h =
     let here = h n (omega arith) in
-    sym (rw (drop-cons xs n free_page here.0) (ap (λ (b : Bool). cond b (At n) (lowest_from (suc n) (drop (suc n) xs))) here.1))
+    sym (rw (drop-cons xs n free_page here.0) (ap (λ (b : Bool). cond b (Some n) (lowest_from (suc n) (drop (suc n) xs))) here.1))
     ∙ lowest_past xs n (λ k l. h k (omega arith))
 
 -- counting from the high end
-pub count_down : (t : List ℕ) (p left rest n : ℕ) → 0 < p → p ≤ pages_in t → 0 < left → rest ≡ left - cond (eqb (level_at t (p - 1)) 0) 1 0
-    → left + free_count (drop p (pages_of t)) ≡ n → rest + free_count (drop (p - 1) (pages_of t)) ≡ n
+one_or_none : (b : Bool) → from_bool b ≡ cond b 1 0
+one_or_none true = refl
+one_or_none false = refl
+
+pub count_down : (t : List ℕ) (p left freed n : ℕ) → 0 < p → p ≤ pages_in t → 0 < left → freed ≡ from_bool (eqb (level_at t (p - 1)) 0)
+    → left + free_count (drop p (pages_of t)) ≡ n → left - freed + free_count (drop (p - 1) (pages_of t)) ≡ n
 unfolding free_count
-count_down t p left rest n o h l e k =
+count_down t p left freed n o h l e k =
     let z : suc (p - 1) ≡ p = omega arith in
-    let f : count_free (get_or (pages_of t) (p - 1) free_page) ≡ cond (eqb (level_at t (p - 1)) 0) 1 0 = ap (λ (b : Bool). cond b 1 0) (level_free t (p - 1) (omega arith)) in
+    let f : count_free (get_or (pages_of t) (p - 1) free_page) ≡ from_bool (eqb (level_at t (p - 1)) 0) = ap (λ (b : Bool). cond b 1 0) (level_free t (p - 1) (omega arith)) ∙ sym (one_or_none (eqb (level_at t (p - 1)) 0)) in
     let c : free_count (drop (p - 1) (pages_of t)) ≡ count_free (get_or (pages_of t) (p - 1) free_page) + free_count (drop p (pages_of t)) =
     ap free_count (pages_from_lem t (p - 1) (omega arith)) ∙ ap (λ (m : ℕ). count_free (get_or (pages_of t) (p - 1) free_page) + free_count (drop m (pages_of t))) z in
     omega (arith, count_free_most (get_or (pages_of t) (p - 1) free_page))

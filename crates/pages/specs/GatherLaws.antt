@@ -1,15 +1,16 @@
 -- Gathering a summary from the last entry in use to the first, over plain lists and numbers.
-use Rattle.std.specs.Prelude.{Bool, true, false, cond, ◌≡◌, ℕ, zero, suc, ◌+◌, ◌*◌, ◌-◌, min, ◌≤◌, ◌<◌, ltb, length, get_or, take}
+use Rattle.std.specs.Prelude.{Bool, true, false, cond, ◌≡◌, ℕ, suc, ◌+◌, ◌-◌, min, ◌≤◌, ◌<◌, ltb, length, get_or}
 use mathlib.Core.List.{List, [], ◌∷◌}
 use Rattle.std.proofs.Math.Path.{refl, sym, ap}
-use Rattle.std.proofs.Common.{◌∙◌, subst, add-zero, add-one, arith, length-take, length-drop, drop_of_length-le, drop-cons, get_or-take}
+use Rattle.std.proofs.Common.{◌∙◌, subst, arith, length-take, length-drop, drop_of_length-le, drop-cons, get_or-take}
 use Rattle.std.proofs.Math.ListN.{drop}
 use Rattle.ground.specs.Boxes.{join, size}
 use Rattle.ground.specs.declared.boxes.Box.{Box}
 use Rattle.pages.specs.declared.Entry.{Entry}
+use Rattle.pages.specs.Layout.{page_entries, zero_box, zero_entry, box_at, entry_in, count_at, page_at, words_of_box, words_of_entry}
+use Rattle.pages.specs.ViewLaws.{used_entry}
 use Rattle.pages.specs.declared.Page.{Page}
-use Rattle.pages.specs.Layout.{page_entries, zero_box, zero_entry, box_at, entry_at, entry_start, entry_in, level_at, count_at, page_at}
-use Rattle.pages.specs.LayoutLaws.{level_in, count_in, entry_in_lem, page_eight}
+use Rattle.pages.specs.LayoutLaws.{count_in, entry_in_lem, page_eight}
 use Rattle.pages.specs.Summary.{is_leaf, in_use, record_box, weak_gust, union_box, union_size, gust_of, covering, later_if_greater, first_greatest, least_of, summary, summary_of}
 
 -- what is chosen by a test, and what is then done to it
@@ -17,30 +18,18 @@ pub chosen {ℓ ℓ'} : {A : Type ℓ} {B : Type ℓ'} (f : A → B) (t : Bool) 
 chosen f true x y = refl
 chosen f false x y = refl
 
--- the same words by offset
-pub record_box_at : (t : List ℕ) (p i level o : ℕ) → o ≡ cond (is_leaf level) 0 9 → box_at t (entry_start p i + o) ≡ record_box level (entry_in t p i)
-unfolding entry_at
-record_box_at t p i level o e =
-    ap (λ (n : ℕ). box_at t (entry_start p i + n)) e
-    ∙ chosen (λ (n : ℕ). box_at t (entry_start p i + n)) (is_leaf level) 0 9
-    ∙ ap (λ (n : ℕ). cond (is_leaf level) (box_at t n) (box_at t (entry_start p i + 9))) (add-zero (entry_start p i))
+-- what the summary takes of an entry, by its offset among the entry's words
+pub record_box_at : (e : Entry) (level o : ℕ) → o ≡ cond (is_leaf level) 0 9 → box_at (words_of_entry e) o ≡ record_box level e
+unfolding box_at words_of_entry words_of_box
+record_box_at e level o p = ap (box_at (words_of_entry e)) p ∙ chosen (box_at (words_of_entry e)) (is_leaf level) 0 9
 
-pub union_box_at : (t : List ℕ) (p i level o : ℕ) → o ≡ cond (is_leaf level) 0 15 → box_at t (entry_start p i + o) ≡ union_box level (entry_in t p i)
-unfolding entry_at
-union_box_at t p i level o e =
-    ap (λ (n : ℕ). box_at t (entry_start p i + n)) e
-    ∙ chosen (λ (n : ℕ). box_at t (entry_start p i + n)) (is_leaf level) 0 15
-    ∙ ap (λ (n : ℕ). cond (is_leaf level) (box_at t n) (box_at t (entry_start p i + 15))) (add-zero (entry_start p i))
+pub union_box_at : (e : Entry) (level o : ℕ) → o ≡ cond (is_leaf level) 0 15 → box_at (words_of_entry e) o ≡ union_box level e
+unfolding box_at words_of_entry words_of_box
+union_box_at e level o p = ap (box_at (words_of_entry e)) p ∙ chosen (box_at (words_of_entry e)) (is_leaf level) 0 15
 
-pub weak_gust_at : (t : List ℕ) (p i level o : ℕ) → o ≡ cond (is_leaf level) 6 7 → get_or t (entry_start p i + o) 0 ≡ weak_gust level (entry_in t p i)
-unfolding entry_at
-weak_gust_at t p i level o e =
-    ap (λ (n : ℕ). get_or t (entry_start p i + n) 0) e ∙ chosen (λ (n : ℕ). get_or t (entry_start p i + n) 0) (is_leaf level) 6 7
-
--- an offset stays below 16
-pub offset_most : (b : Bool) (o x y : ℕ) → o ≡ cond b x y → x ≤ 15 → y ≤ 15 → o ≤ 15
-offset_most true o x y e h k = omega arith
-offset_most false o x y e h k = omega arith
+pub weak_gust_at : (e : Entry) (level o : ℕ) → o ≡ cond (is_leaf level) 6 7 → get_or (words_of_entry e) o 0 ≡ weak_gust level e
+unfolding words_of_entry words_of_box
+weak_gust_at e level o p = ap (λ n. get_or (words_of_entry e) n 0) p ∙ chosen (λ n. get_or (words_of_entry e) n 0) (is_leaf level) 6 7
 
 -- the entries in use, where they lie
 pub in_use_length : (t : List ℕ) (p : ℕ) → length (in_use (page_at t p)) ≡ min (count_at t p) page_entries
@@ -103,9 +92,6 @@ module _ (es : List Entry) where
       let n : suc (i - 1) ≡ i = omega arith in
       let q : drop (i - 1) es ≡ e ∷ drop i es = drop-cons es (i - 1) zero_entry (omega arith) ∙ ap (λ (x : Entry). x ∷ drop (suc (i - 1)) es) pe ∙ ap (λ (k : ℕ). e ∷ drop k es) n in
       rw (q, covering_more e (drop i es) (omega (arith, length-drop i es))) (pp ∙ ap (λ (b : Box). join e.place b) h)
-
-  pub cover_all : (i : ℕ) (place : Box) → i ≡ 0 → place ≡ covering (drop i es) → place ≡ covering es
-  cover_all i place z h = h ∙ ap (λ (k : ℕ). covering (drop k es)) z
 
   least_more : (key : Entry → ℕ) (e : Entry) (l : List Entry) → 0 < length l → least_of key (e ∷ l) ≡ min (key e) (least_of key l)
   unfolding least_of
@@ -177,17 +163,18 @@ module _ (es : List Entry) where
       let qw = h.weakest_is in
       λ i. record { place = qp i; gust = qg i; weakest = qw i; child = p; strongest = qb i; union = qu i }
 
-pub gathered_page : (t : List ℕ) (p level i : ℕ) (place : Box) (weakest gust strongest size largest : ℕ) → level ≡ level_at t p → i ≡ 0 → place ≡ covering (in_use (page_at t p))
-    → Gathered (in_use (page_at t p)) level i weakest gust strongest size largest
-    → (g : ℕ) (b u : Box) → g ≡ (entry_in t p strongest).gust → b ≡ record_box level (entry_in t p strongest) → u ≡ union_box level (entry_in t p largest)
-    → ◌≡◌ {A = Entry} (record { place = place; gust = g; weakest = weakest; child = p; strongest = b; union = u }) (summary_of p (page_at t p))
+pub gathered_page : (x : Page) (p level i : ℕ) (place : Box) (weakest gust strongest size largest : ℕ) → level ≡ x.level → i ≡ 0 → place ≡ covering (in_use x)
+    → Gathered (in_use x) level i weakest gust strongest size largest
+    → (e f : Entry) → e ≡ get_or x.entries strongest zero_entry → f ≡ get_or x.entries largest zero_entry
+    → (g : ℕ) (b u : Box) → g ≡ e.gust → b ≡ record_box level e → u ≡ union_box level f
+    → ◌≡◌ {A = Entry} (record { place = place; gust = g; weakest = weakest; child = p; strongest = b; union = u }) (summary_of p x)
 unfolding summary_of
-gathered_page t p level i place weakest gust strongest size largest pl z qp h g b u pg pb pu =
-    let k : Gathered (in_use (page_at t p)) level 0 weakest gust strongest size largest =
-    subst (λ (n : ℕ). Gathered (in_use (page_at t p)) level n weakest gust strongest size largest) z h in
-    gathered_all (in_use (page_at t p)) p level place weakest gust strongest size largest qp k g b u (entry_in t p strongest) (entry_in t p largest)
-    (in_use_at t p strongest k.strongest_within) (in_use_at t p largest k.largest_within) pg pb pu
-    ∙ ap (λ (l : ℕ). summary p l (in_use (page_at t p))) (pl ∙ sym (level_in t p))
+gathered_page x p level i place weakest gust strongest size largest pl z qp h e f pe pf g b u pg pb pu =
+    let k : Gathered (in_use x) level 0 weakest gust strongest size largest =
+    subst (λ (n : ℕ). Gathered (in_use x) level n weakest gust strongest size largest) z h in
+    gathered_all (in_use x) p level place weakest gust strongest size largest qp k g b u e f
+    (used_entry x strongest k.strongest_within ∙ sym pe) (used_entry x largest k.largest_within ∙ sym pf) pg pb pu
+    ∙ ap (λ (l : ℕ). summary p l (in_use x)) pl
 
 -- no entry in use
 abbrev pub empty_summary : ℕ → Entry

@@ -1,13 +1,12 @@
 -- Laws of the table: what was put is read, other pages stay, and the table is its list of pages.
 use Rattle.std.specs.Prelude.{List, [], ◌∷◌, ◌++◌, ◌≡◌, refl, ℕ, zero, suc, ◌+◌, ◌*◌, ◌/◌, ◌≤◌, ◌<◌, true, ◌&&◌, leb, eqb, replicate, length, get_or, take, drop, set}
-use Rattle.std.proofs.Common.{append_assoc, sym, ap, ◌∙◌, add_assoc, add-zero, not-suc-le-zero, le_of_suc-le-suc, arith, length-append, length-take, length-drop, take-append-drop, get_or-drop, drop-cons, drop-drop, drop_at, take_at, take-add, take-take, take_all, length-take-le, get_or-set_other}
-use Rattle.std.proofs.lemmas.List.{set-get_or}
+use Rattle.std.proofs.Common.{append_assoc, sym, ap, ◌∙◌, add_assoc, add-zero, not-suc-le-zero, le_of_suc-le-suc, arith, length-append, length-take, length-drop, take-append-drop, get_or-drop, drop-cons, drop-drop, drop_at, take-add, take_all, length-take-le, get_or-set_other}
 use Rattle.ground.specs.declared.boxes.Box.{Box}
 use Rattle.pages.specs.declared.Entry.{Entry}
 use Rattle.pages.specs.declared.Page.{Page}
-use Rattle.pages.specs.Layout.{page_words, entry_words, page_entries, most_pages, pages_in, table_fits, range_at, box_at, entry_at, entries_of, page_of, page_at, level_at, count_at, entry_start, entry_in}
+use Rattle.pages.specs.Layout.{page_words, entry_words, page_entries, most_pages, pages_in, table_fits, box_at, entry_at, entries_of, page_of, page_at, level_at, count_at, entry_start, entry_in}
 use Rattle.pages.specs.Layout.{words_of_box, words_of_entry, words_of_entries, words_of_page, put_page, cut_pages, pages_of, table_of, zero_entry, free_page}
-use Rattle.pages.specs.Facts.{Fitting, fitting, InTable, in_pages}
+use Rattle.pages.specs.Facts.{fitting, InTable, in_pages}
 
 -- reading from a later word on
 pub box_drop : (t : List ℕ) (n k : ℕ) → box_at (drop n t) k ≡ box_at t (n + k)
@@ -107,41 +106,22 @@ pub count_in : (t : List ℕ) (p : ℕ) → (page_at t p).count ≡ count_at t p
 unfolding page_at page_of
 count_in t p = get_or-drop (p * page_words) t 1 0
 
-entry_of : (n i : ℕ) (w : List ℕ) → i < n → get_or (entries_of n w) i zero_entry ≡ entry_at w (i * entry_words)
+pub entry_nth : (n i : ℕ) (w : List ℕ) → i < n → get_or (entries_of n w) i zero_entry ≡ entry_at w (i * entry_words)
 unfolding entries_of
-entry_of zero i w h = absurd (not-suc-le-zero h)
-entry_of (suc n) zero w h = refl
-entry_of (suc n) (suc i) w h =
+entry_nth zero i w h = absurd (not-suc-le-zero h)
+entry_nth (suc n) zero w h = refl
+entry_nth (suc n) (suc i) w h =
     let e : suc i * entry_words ≡ entry_words + i * entry_words = omega arith in
-    entry_of n i (drop entry_words w) (le_of_suc-le-suc h) ∙ entry_drop w entry_words (i * entry_words) ∙ ap (entry_at w) (sym e)
+    entry_nth n i (drop entry_words w) (le_of_suc-le-suc h) ∙ entry_drop w entry_words (i * entry_words) ∙ ap (entry_at w) (sym e)
 
 pub entry_in_lem : (t : List ℕ) (p i : ℕ) → i < page_entries → get_or (page_at t p).entries i zero_entry ≡ entry_in t p i
 unfolding page_at page_of
 entry_in_lem t p i h =
     let e : p * page_words + 2 + i * entry_words ≡ entry_start p i = omega arith in
-    entry_of page_entries i (drop 2 (drop (p * page_words) t)) h
+    entry_nth page_entries i (drop 2 (drop (p * page_words) t)) h
     ∙ ap (λ (w : List ℕ). entry_at w (i * entry_words)) (drop-drop 2 (p * page_words) t)
     ∙ entry_drop t (p * page_words + 2) (i * entry_words)
     ∙ ap (entry_at t) e
-
--- a page made of what is read in place is the page
-pub page_made : (t : List ℕ) (p l n : ℕ) (a b c d e f g h : Entry) → l ≡ level_at t p → n ≡ count_at t p
-    → a ≡ entry_in t p 0 → b ≡ entry_in t p 1 → c ≡ entry_in t p 2 → d ≡ entry_in t p 3
-    → e ≡ entry_in t p 4 → f ≡ entry_in t p 5 → g ≡ entry_in t p 6 → h ≡ entry_in t p 7
-    → ◌≡◌ {A = Page} (record { level = l; count = n; entries = a ∷ b ∷ c ∷ d ∷ e ∷ f ∷ g ∷ h ∷ [] }) (page_at t p)
-unfolding page_at page_of entries_of
-page_made t p l n a b c d e f g h pl pn pa pb pc pd pe pf pg ph =
-    let ql = pl ∙ sym (level_in t p) in
-    let qn = pn ∙ sym (count_in t p) in
-    let qa = pa ∙ sym (entry_in_lem t p 0 (omega arith)) in
-    let qb = pb ∙ sym (entry_in_lem t p 1 (omega arith)) in
-    let qc = pc ∙ sym (entry_in_lem t p 2 (omega arith)) in
-    let qd = pd ∙ sym (entry_in_lem t p 3 (omega arith)) in
-    let qe = pe ∙ sym (entry_in_lem t p 4 (omega arith)) in
-    let qf = pf ∙ sym (entry_in_lem t p 5 (omega arith)) in
-    let qg = pg ∙ sym (entry_in_lem t p 6 (omega arith)) in
-    let qh = ph ∙ sym (entry_in_lem t p 7 (omega arith)) in
-    λ i. record { level = ql i; count = qn i; entries = qa i ∷ qb i ∷ qc i ∷ qd i ∷ qe i ∷ qf i ∷ qg i ∷ qh i ∷ [] }
 
 -- what was put is read; the length stays; a page put back unchanged changes nothing
 pub put_length : (t : List ℕ) (p : ℕ) (x : Page) → InTable t p → length x.entries ≡ page_entries → length (put_page t p x) ≡ length t

@@ -4,6 +4,7 @@ pub mod Summary
 pub mod Free
 pub mod Facts
 pub mod LayoutLaws
+pub mod ViewLaws
 pub mod Words
 pub mod WordLaws
 pub mod Ends

@@ -1,19 +1,18 @@
 -- Laws of the summary: it is the exact index entry for a page.
-use Rattle.std.specs.Prelude.{Bool, true, false, cond, ◌≡◌, refl, ltb, length, get_or, take, drop}
+use Rattle.std.specs.Prelude.{Bool, true, false, cond, ◌≡◌, refl, ltb, length, get_or}
 use mathlib.Core.List.{List, [], ◌∷◌}
 use Rattle.std.proofs.Math.Logic.{⊎_elim}
 use Rattle.std.proofs.Common.{sym, ap, ◌∙◌, subst, not-suc-le-zero, le_of_suc-le-suc, le_trans, ltb-true, ltb-false}
-use Prim.Native.Nat.{ℕ, zero, suc, ◌+◌, ◌-◌, min, ◌≤◌, ◌<◌}
+use Prim.Native.Nat.{ℕ, zero, suc, ◌≤◌, ◌<◌}
 use Rattle.std.proofs.Math.Nat.{le_refl}
 use native.Mathlib.Omega.{arith}
-use Rattle.ground.specs.Boxes.{covers, join, size}
+use Rattle.ground.specs.Boxes.{covers, join}
 use Rattle.ground.specs.BoxLaws.{covers_self, covers_trans, covers_antisym, join_covers_first, join_covers_second, join_smallest}
 use Rattle.ground.specs.Tests.{below_or_not}
 use Rattle.ground.specs.declared.boxes.Box.{Box}
 use Rattle.pages.specs.declared.Entry.{Entry}
-use Rattle.pages.specs.declared.Page.{Page}
-use Rattle.pages.specs.Layout.{zero_box, zero_entry}
-use Rattle.pages.specs.Summary.{in_use, record_box, weak_gust, union_box, union_size, gust_of, covering, later_if_greater, first_greatest, least_of, summary, summary_of}
+use Rattle.pages.specs.Layout.{zero_entry}
+use Rattle.pages.specs.Summary.{record_box, weak_gust, union_box, union_size, gust_of, covering, later_if_greater, first_greatest, least_of, summary}
 
 -- the box covers every entry's box
 pub covering_covers : (es : List Entry) (i : ℕ) → i < length es → covers (covering es) (get_or es i zero_entry).place ≡ true

@@ -1,15 +1,15 @@
 -- What the writers leave in a slice, over plain lists.
-use Rattle.std.specs.Prelude.{List, [], ◌∷◌, ◌++◌, map, ◌≡◌, refl, ℕ, zero, suc, ◌+◌, ◌*◌, ◌-◌, ◌≤◌, ◌<◌, length, get_or, take, drop, set, replicate}
-use Rattle.std.proofs.Common.{append-nil, append_assoc, sym, ap, ◌∙◌, arith, add-one, length-append, length-take, length-drop, length-set, drop_of_length-le, take_at, drop_at, drop-drop, take-suc, take_all, length-take-le, drop-cons}
+use Rattle.std.specs.Prelude.{List, [], ◌∷◌, ◌++◌, map, ◌≡◌, refl, ℕ, zero, suc, ◌+◌, ◌*◌, ◌-◌, ◌<◌, length, get_or, take, drop, set, replicate}
+use Rattle.std.proofs.Common.{append-nil, append_assoc, sym, ap, ◌∙◌, arith, add-one, length-take, length-drop, drop_of_length-le, take_at, drop_at, drop-drop, take-suc, take_all, length-take-le}
 use Rattle.std.proofs.Math.Path.{subst⁻¹}
-use Rattle.std.proofs.lemmas.List.{length-replicate, length-map, set_at}
+use Rattle.std.proofs.lemmas.List.{length-map}
 use Rattle.std.proofs.lemmas.List.Edits.{sets, sets-eq}
-use Rattle.std.proofs.Math.Seq.{take-length, append_snoc, take-append-add, drop-append-add}
+use Rattle.std.proofs.Math.Seq.{take-append-add, drop-append-add}
 use Rattle.pages.specs.declared.Entry.{Entry}
 use Rattle.pages.specs.declared.Page.{Page}
 use Rattle.pages.specs.Layout.{page_words, entry_words, page_entries, words_of_box, words_of_entry, words_of_entries, words_of_page, zero_entry, free_page, with_entry, put_page, page_of, page_at, entries_of}
 use Rattle.pages.specs.Facts.{InTable}
-use Rattle.pages.specs.LayoutLaws.{entries_written, length_entries_of, page_front, length_entry, length_page, length_entries, spread, spread_take, length_box, free_words}
+use Rattle.pages.specs.LayoutLaws.{entries_written, length_entries_of, page_front, length_entry, length_entries, spread, spread_take, free_words}
 
 -- the length of an array of structs is that of what it stands for
 pub unmapped {ℓ ℓ'} : {A : Type ℓ} {B : Type ℓ'} (f : A → B) (l : List A) (n : ℕ) → length (map f l) ≡ n → length l ≡ n
@@ -25,9 +25,6 @@ stored vs s h =
 abbrev pub placed : ℕ → ℕ → List ℕ → List ℕ → List ℕ
 placed a k s w = take a s ++ (w ++ drop k (drop a s))
 
-pub placed_length : (a k : ℕ) (s w : List ℕ) → a + k ≤ length s → length w ≡ k → length (placed a k s w) ≡ length s
-placed_length a k s w h e = simp (length-append, length-take, length-drop) (omega arith)
-
 -- a list of known length, spelled out
 spelled : (n : ℕ) (s : List ℕ) → length s ≡ n → s ≡ spread n 0 s
 spelled n s h = sym (spread_take n 0 s (omega arith) ∙ take_all n s (omega arith))
@@ -40,24 +37,6 @@ entry_stored s e a b c h pa pb pc =
     rw (pa, pb, pc)
     (subst⁻¹ (λ (z : List ℕ). placed 15 6 (placed 9 6 (placed 0 6 (set (set (set z 6 e.gust) 7 e.weakest) 8 e.child) (words_of_box e.place)) (words_of_box e.strongest)) (words_of_box e.union) ≡ words_of_entry e)
     (spelled entry_words s h) refl)
-
--- zeros from the front
-zeros_first : (i : ℕ) (l : List ℕ) → replicate i 0 ++ (0 ∷ l) ≡ 0 ∷ (replicate i 0 ++ l)
-zeros_first zero l = refl
-zeros_first (suc i) l = ap (λ (m : List ℕ). 0 ∷ m) (zeros_first i l)
-
-pub zeroed_more : (s s₀ : List ℕ) (i : ℕ) → i < length s₀ → s ≡ replicate i 0 ++ drop i s₀ → set s i 0 ≡ replicate (i + 1) 0 ++ drop (i + 1) s₀
-zeroed_more s s₀ i h e =
-    rw (e, add-one i, drop-cons s₀ i 0 h, set_at (replicate i 0) (get_or s₀ i 0) (drop (suc i) s₀) 0 i (length-replicate i 0))
-    (zeros_first i (drop (suc i) s₀))
-
-pub zeroed_length : (s s₀ : List ℕ) (i : ℕ) → i ≤ length s₀ → s ≡ replicate i 0 ++ drop i s₀ → length s ≡ length s₀
-zeroed_length s s₀ i h e = rw e (simp (length-append, length-replicate, length-drop) (omega arith))
-
-pub zeroed_all : (s s₀ : List ℕ) (i : ℕ) → i ≤ length s₀ → length s ≤ i → s ≡ replicate i 0 ++ drop i s₀ → s ≡ replicate (length s₀) 0
-zeroed_all s s₀ i h k e =
-    let n : i ≡ length s₀ = omega (arith, zeroed_length s s₀ i h e) in
-    e ∙ ap (λ (l : List ℕ). replicate i 0 ++ l) (drop_of_length-le s₀ {i = i} (omega arith)) ∙ append-nil (replicate i 0) ∙ ap (λ (m : ℕ). replicate m 0) n
 
 -- entries written from the front
 words_append : (es fs : List Entry) → words_of_entries (es ++ fs) ≡ words_of_entries es ++ words_of_entries fs
@@ -79,31 +58,6 @@ entries_more es s s₀ w i h e pw =
     let m : i * entry_words + entry_words ≡ (i + 1) * entry_words = omega arith in
     rw (k, e, take_at f (drop n s₀) n l, drop_at f (drop n s₀) n l, drop-drop entry_words n s₀, m, pw, add-one i, take-suc es i zero_entry h, words_append (take i es) (get_or es i zero_entry ∷ []), words_one (get_or es i zero_entry))
     (sym (append_assoc f (words_of_entry (get_or es i zero_entry)) (drop (suc i * entry_words) s₀)))
-
-pub entries_length : (es : List Entry) (s s₀ : List ℕ) (i : ℕ) → i ≤ length es → i * entry_words ≤ length s₀ → s ≡ words_of_entries (take i es) ++ drop (i * entry_words) s₀ → length s ≡ length s₀
-entries_length es s s₀ i h k e =
-    let l : length (words_of_entries (take i es)) ≡ i * entry_words = omega (arith, length_entries (take i es), length-take-le i es h) in
-    rw e (simp (length-append, length-drop) (omega arith))
-
-pub entries_all : (es : List Entry) (s s₀ : List ℕ) (i : ℕ) → i ≡ length es → length s₀ ≤ i * entry_words → s ≡ words_of_entries (take i es) ++ drop (i * entry_words) s₀ → s ≡ words_of_entries es
-entries_all es s s₀ i h k e =
-    e ∙ ap (λ (l : List ℕ). words_of_entries (take i es) ++ l) (drop_of_length-le s₀ {i = i * entry_words} k) ∙ append-nil (words_of_entries (take i es)) ∙ ap words_of_entries (take_all i es (omega arith))
-
--- room for the next box of an entry, and as many words at the end as at the start
-pub room_for_second : (s a : List ℕ) (e : Entry) → length s ≡ entry_words → a ≡ words_of_box e.place → 15 ≤ length (placed 0 6 (set (set (set s 6 e.gust) 7 e.weakest) 8 e.child) a)
-room_for_second s a e h pa =
-    let l = ap length pa ∙ length_box e.place in
-    simp (length-append, length-take, length-drop, length-set) (omega arith)
-
-pub room_for_third : (s a b : List ℕ) (e : Entry) → length s ≡ entry_words → a ≡ words_of_box e.place → b ≡ words_of_box e.strongest
-    → 21 ≤ length (placed 9 6 (placed 0 6 (set (set (set s 6 e.gust) 7 e.weakest) 8 e.child) a) b)
-room_for_third s a b e h pa pb =
-    let l = ap length pa ∙ length_box e.place in
-    let m = ap length pb ∙ length_box e.strongest in
-    simp (length-append, length-take, length-drop, length-set) (omega arith)
-
-pub entry_as_long : (s z : List ℕ) (e : Entry) → length s ≡ entry_words → z ≡ words_of_entry e → length z ≡ length s
-entry_as_long s z e h p = ap length p ∙ length_entry e ∙ sym h
 
 -- a page placed is a page put
 pub page_placed : (t : List ℕ) (p : ℕ) (x : Page) (w : List ℕ) → w ≡ words_of_page x → placed (p * page_words) (p * page_words + page_words - p * page_words) t w ≡ put_page t p x
@@ -129,9 +83,6 @@ page_stored (a ∷ b ∷ r) x w h e =
     ap (λ (l : List ℕ). x.level ∷ x.count ∷ (l ++ drop 168 r)) e
     ∙ ap (λ (l : List ℕ). x.level ∷ x.count ∷ (words_of_entries x.entries ++ l)) (drop_of_length-le r {i = 168} (omega arith))
     ∙ ap (λ (l : List ℕ). x.level ∷ x.count ∷ l) (append-nil (words_of_entries x.entries))
-
-pub page_as_long : (s z : List ℕ) (x : Page) → length x.entries ≡ page_entries → length s ≡ page_words → z ≡ words_of_page x → length z ≡ length s
-page_as_long s z x n h p = ap length p ∙ length_page x n ∙ sym h
 
 -- one entry placed among the others
 entries_set : (es : List Entry) (i : ℕ) (e : Entry) → i < length es → placed (i * entry_words) entry_words (words_of_entries es) (words_of_entry e) ≡ words_of_entries (set es i e)

@@ -1,9 +1,11 @@
 // The pages of the gust book: where each word of a page lies is known here.
-// Two crates go by the order of a box's six words beside it: `sieve` tests them where they lie, `split` works on nine boxes as words.
+// One crate goes by the order of a box's six words beside it: `sieve` tests them where they lie.
 // A book is a lent table of 16-bit words, a page after another, and a small record.
 #![tactic(auto)]
 
+mod entry_at;
 mod free;
+mod page_at;
 mod reading;
 mod summary;
 mod words;
@@ -12,18 +14,16 @@ mod writing;
 ghost use Rattle.std.specs.Prelude.{◌≡◌};
 ghost use Rattle.pages.specs.Free.{empty_small};
 
+pub use entry_at::EntryAt;
 pub use free::{clear, free_at_least, lowest_free, lowest_free_from};
 use ground::Box;
-pub use reading::{
-    box_at, count, entry_child, entry_gust, entry_place, entry_start, entry_strongest, entry_union,
-    entry_weakest, level, read_entry, read_page, table_fits,
-};
-pub use summary::{in_use, summary_at};
-pub use words::{Laid, entry_is, page_is_zero, unused_is_zero};
+pub use page_at::PageAt;
+pub use reading::{box_at, table_fits};
+pub use words::Laid;
 pub use writing::{free_page, put_entry, put_page};
 
 // The small record that goes with a table.
-#[derive(Clone, Copy)]
+#[derive(Clone, Copy, Debug, Default, PartialEq, Eq)]
 pub struct Small {
     pub root: u32,
     pub height: u32,
@@ -33,30 +33,24 @@ pub struct Small {
 }
 
 // An entry of a page. In a leaf all after the gust is 0.
-#[derive(Clone, Copy)]
+#[derive(Clone, Copy, Debug, Default, PartialEq, Eq)]
 pub struct Entry {
     pub place: Box,
     // The gust, or in an index page the strongest gust below.
     pub gust: u16,
     pub weakest: u16,
+    // A page's number: pages lie in the lent table, and there is no heap.
     pub child: u16,
     pub strongest: Box,
     pub union: Box,
 }
 
-// A page: its level (0 free, 1 leaf, one more for each step up), its count, and its eight entries.
-#[derive(Clone, Copy)]
+// A page: its level (0 free, 1 leaf, one more for each step up), its count, and its eight entries. These are the words of the layout, so the level is a number.
+#[derive(Clone, Copy, Debug, Default, PartialEq, Eq)]
 pub struct Page {
     pub level: u16,
     pub count: u16,
     pub entries: [Entry; Page::ENTRIES],
-}
-
-// The lowest page whose level is 0, if there is one.
-#[derive(Clone, Copy)]
-pub enum FreePage {
-    At(usize),
-    NoPage,
 }
 
 impl Page {

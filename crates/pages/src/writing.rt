@@ -1,5 +1,5 @@
-// Writing pages: each part is lent to the function that writes its words.
-ghost use Rattle.std.specs.Prelude.{◌≡◌, ◌*◌, ◌<◌, length, replicate};
+// Writing pages: each part is lent to the function that writes its words. The rules fix the place of every word, so each part is written to its own.
+ghost use Rattle.std.specs.Prelude.{◌≡◌, ◌*◌, ◌<◌, length};
 ghost use Rattle.pages.specs.Layout.{page_words, entry_words, page_entries, free_page, page_of, page_at, with_entry, put_page};
 ghost use Rattle.pages.specs.Layout.{words_of_box, words_of_entry, words_of_entries, words_of_page};
 ghost use Rattle.pages.specs.Facts.{InTable};
@@ -35,13 +35,9 @@ fn write_entries(s: &mut [u16], x: Page)
     requires { length s.old ≡ page_entries * entry_words }
     ensures { s.new ≡ words_of_entries x.entries }
 {
-    let mut i = 0;
-    while i < Page::ENTRIES {
+    for i in 0..Page::ENTRIES {
         let start = i * Entry::WORDS;
-        let end = start + Entry::WORDS;
-        let entry = x.entries[i];
-        write_entry(&mut s[start..end], entry);
-        i += 1;
+        write_entry(&mut s[start..start + Entry::WORDS], x.entries[i]);
     }
 }
 
@@ -84,16 +80,6 @@ pub fn put_entry(t: &mut [u16], p: usize, i: usize, e: Entry, n: u16)
     write_place(&mut t[start..end], i, e, n);
 }
 
-pub fn zero_words(s: &mut [u16])
-    ensures { s.new ≡ replicate (length s.old) 0 }
-{
-    let mut i = 0;
-    while i < s.len() {
-        s[i] = 0;
-        i += 1;
-    }
-}
-
 // All words of a page become 0.
 pub fn free_page(t: &mut [u16], p: usize)
     requires { InTable t.old p }
@@ -101,5 +87,5 @@ pub fn free_page(t: &mut [u16], p: usize)
 {
     let start = p * Page::WORDS;
     let end = start + Page::WORDS;
-    zero_words(&mut t[start..end]);
+    t[start..end].fill(0);
 }

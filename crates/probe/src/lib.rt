@@ -8,7 +8,7 @@ ghost use Rattle.gustbook.specs.Boundary.{small_of, box_of, record_leaves};
 ghost use Rattle.rules.specs.Record.{record_into};
 ghost use Rattle.wellformed.specs.WellFormed.{well_formed};
 
-use gustbook::{box_of, put_small, small_of, tell_recorded};
+use gustbook::{box_of, put_small, small_of, tell};
 use wide::narrow;
 
 // As gust_record, without the pass over the table.
@@ -23,8 +23,8 @@ pub extern "C" fn gust_probe_record_sound(
     requires { well_formed table.old (small_of small.old) ≡ true }
     ensures { record { told = record { refusal = result; answer = answer.new }; table = table.new; small = small.new } ≡ record_leaves (record_into table.old (small_of small.old) (box_of place.now) gust) answer.old }
 {
-    let called = recording::record_sound(table, small_of(small), box_of(place), narrow(gust));
-    put_small(small, called.small);
-    let reply = called.reply;
-    tell_recorded(reply, answer)
+    let mut s = small_of(small);
+    let said = recording::record_sound(table, &mut s, box_of(place), narrow(gust));
+    put_small(small, s);
+    tell(said, answer)
 }

@@ -45,22 +45,14 @@ best_more b es (suc i) e best later r d o l q h =
     by_test true m = refl
     by_test false m = refl
 
--- after the loop, which stops at the count or, where there is at most one entry, at once
-pub best_all : (b : Box) (es : List Entry) (i : ℕ) (best : Choice) → length es ≤ i → i ≤ 1 + (length es - 1) → best ≡ best_to b es (i - 1) → best.at ≡ choose b es
-unfolding best_to choose
-best_all b es i best l m h = let z : i - 1 ≡ length es - 1 = omega arith in ap (λ c. c.at) h ∙ ap (least_grown b es) z
+-- after the loop: none, or all places passed
+pub best_all : (b : Box) (es : List Entry) (n i : ℕ) (best : Choice) → n ≡ length es → n ≤ i → (1 ≤ n → i ≤ n) → (n ≡ 0 → best.at ≡ 0) → (0 < n → best ≡ best_to b es (i - 1)) → best.at ≡ choose b es
+unfolding best_to choose least_grown
+best_all b es zero i best e l m none some = let z : length es - 1 ≡ 0 = omega arith in rw z (none refl)
+best_all b es (suc n) i best e l m none some = let z : i - 1 ≡ length es - 1 = omega (arith, m (omega arith)) in ap (λ c. c.at) (some (omega arith)) ∙ ap (least_grown b es) z
 
 pub grown_is : (b p : Box) (s g : ℕ) → s ≡ size p → g ≡ size (join p b) → s ≤ g
 grown_is b p s g q h = omega (arith, grows b p)
 
-pub choice_made : (b : Box) (e : Entry) (i s g : ℕ) → s ≡ size e.place → g ≡ size (join e.place b) → ◌≡◌ {A = Choice} (record { at = i; growth = g - s; size = s }) (choice_of b e i)
-choice_made b e i s g q r = choice_is b e i g s (g - s) r q refl
-
--- chosen number by number
-pub choice_chosen : (t : Bool) (x y : Choice) (a g s : ℕ) → a ≡ cond t x.at y.at → g ≡ cond t x.growth y.growth → s ≡ cond t x.size y.size → ◌≡◌ {A = Choice} (record { at = a; growth = g; size = s }) (cond t x y)
-choice_chosen true x y a g s p q r = λ i. record { at = p i; growth = q i; size = r i }
-choice_chosen false x y a g s p q r = λ i. record { at = p i; growth = q i; size = r i }
-
-pub choose_none : (b : Box) (es : List Entry) (n : ℕ) → n ≡ length es → n ≡ 0 → 0 ≡ choose b es
-unfolding choose least_grown
-choose_none b es n e z = let y : length es - 1 ≡ 0 = omega arith in rw y
+pub choice_made : (b : Box) (e : Entry) (p : Box) (i s g : ℕ) → p ≡ e.place → s ≡ size p → g ≡ size (join p b) → ◌≡◌ {A = Choice} (record { at = i; growth = g - s; size = s }) (choice_of b e i)
+choice_made b e p i s g d q r = choice_is b e i g s (g - s) (r ∙ ap (λ x. size (join x b)) d) (q ∙ ap size d) refl

@@ -3,7 +3,7 @@ use Rattle.std.specs.Prelude.{ℕ, zero, suc, ◌+◌, ◌-◌, ◌≤◌, ◌<�
 use Rattle.std.proofs.Math.Bool.{true, false, xor, cond}
 use Rattle.std.specs.Bool.{beq}
 use Rattle.std.proofs.lemmas.Bool.{false≢true}
-use Rattle.std.proofs.Common.{true≢false, sym, ap, ap₂, ◌∙◌, add-one, arith, le-leb, leb-true, take-suc, take_all}
+use Rattle.std.proofs.Common.{true≢false, sym, ap, ap₂, ◌∙◌, add-one, arith, le-leb, leb-true, take-suc}
 use Rattle.std.proofs.Math.Path.{refl, subst}
 use Rattle.ground.specs.Axes.{beside, placed, touching_at}
 use Rattle.ground.specs.BoxLaws.{covers_trans}
@@ -15,15 +15,12 @@ use Rattle.ground.specs.declared.boxes.Range.{Range}
 use Rattle.ground.specs.declared.boxes.Box.{Box}
 use Rattle.ground.specs.declared.boxes.Cut.{Cut}
 use Rattle.ground.specs.declared.boxes.Cut.TheVariants.{Covered, Left, Unchanged}
-use Rattle.pages.specs.Layout.{page_entries, zero_entry, entry_in, page_at}
-use Rattle.pages.specs.LayoutLaws.{entry_in_lem}
-use Rattle.pages.specs.Summary.{in_use}
+use Rattle.pages.specs.Layout.{zero_entry}
 use Rattle.pages.specs.declared.Entry.{Entry}
 use Rattle.pages.specs.declared.Page.{Page}
 use Rattle.rules.specs.Scan.{Sought, met, meets, candidate, scan_entry, scan}
-use Rattle.recording.specs.ScanSteps.{scan_from, scan_start, scan_turn, scan_end}
 use Rattle.rules.specs.Strike.{is_struck, cons_if, select, struck_of, rest, strike_all, strike_one, strike}
-use Rattle.recording.specs.StrikeSteps.{select_more, used_at}
+use Rattle.recording.specs.StrikeSteps.{select_more}
 
 -- c covers b on two axes or more
 abbrev pub on_two_axes : Box → Box → Bool
@@ -48,8 +45,25 @@ one_axis c b = by_axes (covers_on c.east b.east) (covers_on c.north b.north) (co
     by_axes false true false h = refl
     by_axes false false d h = refl
 
-pub two_axes_so : (c b : Box) (e n d : Bool) → e ≡ covers_on c.east b.east → n ≡ covers_on c.north b.north → d ≡ covers_on c.day b.day → (e && (n || d)) || (n && d) ≡ on_two_axes c b
-two_axes_so c b e n d p q r = rw (p, q, r)
+-- a candidate that is tested first, and one that is met
+pub not_met : (s : Sought) (c two : Bool) (x : Box) → two ≡ on_two_axes x s.box → s.is_covered || not c || not two ≡ true → s ≡ candidate c x s
+unfolding candidate
+not_met s c two x e h = by_tests s.is_covered c two e h
+  where
+    by_tests : (k c t : Bool) → t ≡ on_two_axes x s.box → k || not c || not t ≡ true → s ≡ meets k c x s
+    by_tests true c t e h = refl
+    by_tests false false t e h = refl
+    by_tests false true false e h = sym (ap (λ z. met z s) (one_axis x s.box (sym e)))
+    by_tests false true true e h = absurd (false≢true h)
+
+pub met_by : (s r : Sought) (c two : Bool) (x : Box) (k : Cut) → s.is_covered || not c || not two ≡ false → k ≡ cut x s.box → r ≡ met k s → r ≡ candidate c x s
+unfolding candidate
+met_by s r c two x k h e d = by_tests s.is_covered c two h
+  where
+    by_tests : (a c t : Bool) → a || not c || not t ≡ false → r ≡ meets a c x s
+    by_tests true c t h = absurd (true≢false h)
+    by_tests false false t h = absurd (true≢false h)
+    by_tests false true t h = d ∙ ap (λ z. met z s) e
 
 -- both ends of a range lie in another, whichever of the two is the lower
 pub record WithinOn (q r : Range) : Type 0 where
@@ -107,20 +121,6 @@ too_weak c x s e = rw e (by_test s.is_covered)
     by_test : (k : Bool) → s ≡ meets k false x s
     by_test true = refl
     by_test false = refl
-
--- a candidate read from an entry
-pub entry_met : (v g k : ℕ) (x y : Box) (s r : Sought) → k ≡ g → y ≡ x → r ≡ candidate (leb v k) y s → r ≡ candidate (leb v g) x s
-entry_met v g k x y s r e d h = h ∙ ap (λ m. candidate (leb v m) y s) e ∙ ap (λ z. candidate (leb v g) z s) d
-
-pub union_met : (v g k : ℕ) (x y : Box) (s r : Sought) → k ≡ g → v ≤ k → y ≡ x → r ≡ candidate true y s → r ≡ candidate (leb v g) x s
-union_met v g k x y s r e l d h = h ∙ ap (λ z. candidate true z s) d ∙ ap (λ t. candidate t x s) (sym (le-leb v g (omega (arith, e))))
-
-pub union_weak : (v g k : ℕ) (x : Box) (s : Sought) → k ≡ g → k < v → s ≡ candidate (leb v g) x s
-union_weak v g k x s e l = too_weak (leb v g) x s (fails (leb v g) (λ h. let m = leb-true v g h in omega (arith, e)))
-
--- an entry where it lies is that of the page
-pub entry_used : (t : List ℕ) (p i : ℕ) → i < length (in_use (page_at t p)) → i < page_entries → entry_in t p i ≡ get_or (in_use (page_at t p)) i zero_entry
-entry_used t p i l m = sym (entry_in_lem t p i m) ∙ used_at (page_at t p) i l
 
 -- what is not struck by a box that b lies in is not struck by b
 pub within_covers : (q b : Box) → Within q b → covers q b ≡ true
@@ -231,38 +231,18 @@ module _ (q : Box) (v : ℕ) (es : List Entry) where
       neither true c f = absurd (true≢false f)
       neither false c f = (refl, f)
 
-  pub seen_all : (i : ℕ) (r : Bool) → length es ≤ i → Sees q v (take i es) r → Sees q v es r
-  seen_all i r l h = subst (λ xs. Sees q v xs r) (take_all i es l) h
+-- a candidate that is met where it lies, and one that is passed over, since it neither covers nor cuts
+pub met_there : (v g k : ℕ) (x y : Box) (s r : Sought) → k ≡ g → y ≡ x → r ≡ candidate (leb v k) y s → r ≡ candidate (leb v g) x s
+met_there v g k x y s r e d h = h ∙ ap (λ m. candidate (leb v m) y s) e ∙ ap (λ z. candidate (leb v g) z s) d
 
--- the scan, after the first i entries
-pub record Scanned (q : Box) (n v : ℕ) (es : List Entry) (s : Sought) (i : ℕ) (found : Sought) : Type 0 where
-  pub so_far : scan_from n v es i found ≡ scan n v es s
-  pub within : Within q found.box
+pub passed_over : (q x : Box) (c : Bool) (s : Sought) → Within q s.box → touches q x ≡ false → s ≡ candidate c x s
+passed_over q x c s w t = left_alone c x s (apart q x s.box w t)
 
-module _ (q : Box) (n v : ℕ) (es : List Entry) (s : Sought) where
-  pub scanned_none : Within q s.box → Scanned q n v es s 0 s
-  scanned_none w = record { so_far = scan_start n v es s; within = w }
+pub strong_met : (v g k : ℕ) (x y : Box) (s r : Sought) → k ≡ g → v ≤ k → y ≡ x → r ≡ candidate true y s → r ≡ candidate (leb v g) x s
+strong_met v g k x y s r e l d h = h ∙ ap (λ z. candidate true z s) d ∙ ap (λ t. candidate t x s) (sym (le-leb v g (omega (arith, e))))
 
-  pub scanned_more : (i : ℕ) (e : Entry) (found new : Sought) → i < length es → e ≡ get_or es i zero_entry → new ≡ scan_entry n v e found → Scanned q n v es s i found → Scanned q n v es s (i + 1) new
-  scanned_more i e found new l d z h =
-      record { so_far = scan_turn n v i es e found new (scan n v es s) l d z h.so_far; within = subst (λ (x : Sought). Within q x.box) (sym z) (entry_within q n v e found h.within) }
-
-  pub scanned_all : (i : ℕ) (found : Sought) → length es ≤ i → Scanned q n v es s i found → found ≡ scan n v es s
-  scanned_all i found l h = scan_end n v i es found (scan n v es s) l h.so_far
-
--- an entry that neither covers nor cuts is passed over
-pub leaf_passed : (q : Box) (v : ℕ) (e : Entry) (found : Sought) → Within q found.box → touches q e.place ≡ false → found ≡ scan_entry 0 v e found
-unfolding scan_entry
-leaf_passed q v e found w t = left_alone (leb v e.gust) e.place found (apart q e.place found.box w t)
-
-pub index_passed : (q : Box) (v : ℕ) (e : Entry) (found : Sought) → Within q found.box → touches q e.strongest || leb v e.weakest ≡ false → found ≡ scan_entry 1 v e found
-unfolding scan_entry
-index_passed q v e found w t = by_tests (touches q e.strongest) (leb v e.weakest) refl refl t
-  where
-    by_tests : (a b : Bool) → touches q e.strongest ≡ a → leb v e.weakest ≡ b → a || b ≡ false → found ≡ candidate (leb v e.weakest) e.union (candidate (leb v e.gust) e.strongest found)
-    by_tests true b x y f = absurd (true≢false f)
-    by_tests false true x y f = absurd (true≢false f)
-    by_tests false false x y f = too_weak (leb v e.weakest) e.union found y ∙ ap (candidate (leb v e.weakest) e.union) (left_alone (leb v e.gust) e.strongest found (apart q e.strongest found.box w x))
+pub weak_passed : (v g k : ℕ) (x : Box) (s : Sought) → k ≡ g → k < v → s ≡ candidate (leb v g) x s
+weak_passed v g k x s e l = too_weak (leb v g) x s (fails (leb v g) (λ h. let m = leb-true v g h in omega (arith, e)))
 
 -- an index page is scanned alike at every level
 pub scan_index : (n v : ℕ) (es : List Entry) (s : Sought) → 0 < n → scan 1 v es s ≡ scan n v es s

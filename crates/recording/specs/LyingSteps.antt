@@ -1,5 +1,5 @@
 -- A tidy page changed where it lies: one entry made exact, or one more.
-use Rattle.std.specs.Prelude.{ℕ, ◌+◌, ◌≤◌, ◌<◌, Bool, true, false, List, [], ◌∷◌, ◌++◌, ◌≡◌, refl, leb, length, get_or, set}
+use Rattle.std.specs.Prelude.{None, Some, Option, ℕ, ◌+◌, ◌≤◌, ◌<◌, Bool, true, false, List, [], ◌∷◌, ◌++◌, ◌≡◌, refl, leb, length, get_or, set}
 use Rattle.std.proofs.Common.{⊎_elim, ap₂, subst, ◌∙◌, arith, length-set, set-set, get_or-set_same}
 use Rattle.std.proofs.Math.Path.{sym, ap}
 use Rattle.std.proofs.Math.ListN.{get_or-eq_default}
@@ -13,10 +13,8 @@ use Rattle.pages.specs.declared.Entry.{Entry}
 use Rattle.pages.specs.declared.Page.{Page}
 use Rattle.split.specs.Split.{halves, page_from}
 use Rattle.wellformed.specs.WellFormed.{page}
-use Rattle.recording.specs.declared.settle.Became as code-became
-use Rattle.recording.specs.declared.settle.Became.TheVariants as case
 use Rattle.recording.specs.PageSteps.{Tidy, TidyPage, tidy_from, count_is, pushed, put_there}
-use Rattle.rules.specs.Recording.{Became, Became.stands, settle_by, settle, split_page, into_page, exact_at}
+use Rattle.rules.specs.Recording.{Became.stands, settle_by, settle, split_page, into_page, exact_at}
 use Rattle.rules.specs.Scan.{handed_in}
 use Rattle.recording.specs.SettleSteps.{Settled, settled_by, settled, Settles, settled_few, own_tidy, one_more_tidy, came_standing, came_split, came_back}
 use Rattle.recording.specs.TableSteps.{UsedAt}
@@ -41,14 +39,8 @@ abbrev pub leaf_settled : Bool → List Page → ℕ → Entry → Settled
 leaf_settled true ps p e = record { pages = ps; became = stands }
 leaf_settled false ps p e = settled_at ps p e
 
-pub nothing_appended : (t : List ℕ) (p : ℕ) (c : Bool) (e : Entry) → c ≡ true → Settles t t case.Stands (leaf_settled c (pages_of t) p e)
-nothing_appended t p c e z = rw z (record { same_length = refl; pages_are = refl; became_is = refl })
-
-pub one_appended : (t u : List ℕ) (p : ℕ) (c : Bool) (d e : Entry) (r : code-became.Became) → c ≡ false → d ≡ e → Settles t u r (settled_at (pages_of t) p d) → Settles t u r (leaf_settled c (pages_of t) p e)
-one_appended t u p c d e r z f h = rw (z, ← f) h
-
 -- a page none of whose entries is struck is already what would be stored
-pub none_to_strike : (n : ℕ) (b : Box) (v p : ℕ) (t : List ℕ) → TidyPage (page (pages_of t) p) → struck_of b v (in_use (page (pages_of t) p)) ≡ [] → Frees t t 0 0 (strike_page n b v (pages_of t) p)
+pub none_to_strike : (n : ℕ) (b : Box) (v p : ℕ) (t : List ℕ) → TidyPage (page (pages_of t) p) → struck_of b v (in_use (page (pages_of t) p)) ≡ [] → Frees t t 0 (strike_page n b v (pages_of t) p)
 none_to_strike n b v p t h none =
     let x = page (pages_of t) p in
     let z = nothing_struck n b v (pages_of t) (in_use x) none in
@@ -81,7 +73,7 @@ module _ (t : List ℕ) (p : ℕ) (h : TidyPage (page (pages_of t) p)) where
       let same : exact_page (pages_of t) p i ≡ x = ap (page_from x.level) (set_out (in_use x) i (summary_of c (page (pages_of t) c)) (omega (arith, k.is))) ∙ sym h.is in
       record { same_length = refl; pages_are = sym (set-get_or (pages_of t) p free_page) ∙ ap (set (pages_of t) p) (sym same) }
 
-  pub append_in : (u : List ℕ) (n : ℕ) (e : Entry) → UsedAt t p n → n < page_entries → Leaves t u (set (pages_of t) p (with_entry (page (pages_of t) p) (n + 1) n e)) → Settles t u case.Stands (settled_at (pages_of t) p e)
+  pub append_in : (u : List ℕ) (n : ℕ) (e : Entry) → UsedAt t p n → n < page_entries → Leaves t u (set (pages_of t) p (with_entry (page (pages_of t) p) (n + 1) n e)) → Settles t u None (settled_at (pages_of t) p e)
   append_in u n e k l g =
       let x = page (pages_of t) p in
       let m = counted n k in
@@ -92,18 +84,15 @@ module _ (t : List ℕ) (p : ℕ) (h : TidyPage (page (pages_of t) p)) where
   full_page n y k l e =
       (subst TidyPage (sym e) h, subst (λ (z : Page). page_entries ≤ z.count) (sym e) (omega (arith, counted n k)))
 
-  pub append_full : (u : List ℕ) (y : Page) (e : Entry) (r : code-became.Became) → y ≡ page (pages_of t) p → Settles t u r (settled (pages_of t) p y.level (in_use y ++ (e ∷ []))) → Settles t u r (settled_at (pages_of t) p e)
-  append_full u y e r d g = subst (λ (z : Page). Settles t u r (settled (pages_of t) p z.level (in_use z ++ (e ∷ [])))) d g
-
   -- coming back
   exact_tidy : (i : ℕ) → Tidy (exact_page (pages_of t) p i) (page (pages_of t) p).level (exact_at (pages_of t) (in_use (page (pages_of t) p)) i)
   exact_tidy i = record { is = refl; most = omega (arith, exact_length (pages_of t) (in_use (page (pages_of t) p)) i, h.most) }
 
-  pub came_standing_here : (u : List ℕ) (i : ℕ) (o : code-became.Became) → o ≡ case.Stands → Leaves t u (set (pages_of t) p (exact_page (pages_of t) p i)) → Settles t u case.Stands (came_back (became_of o) (pages_of t) p i)
+  pub came_standing_here : (u : List ℕ) (i : ℕ) (o : Option ℕ) → o ≡ None → Leaves t u (set (pages_of t) p (exact_page (pages_of t) p i)) → Settles t u None (came_back (became_of o) (pages_of t) p i)
   came_standing_here u i o e g =
       let y = exact_page (pages_of t) p i in
       let d = exact_tidy i in
-      came_standing t u p i o y case.Stands e d (settled_few t u p y.level y (in_use y) (own_tidy y (page (pages_of t) p).level (exact_at (pages_of t) (in_use (page (pages_of t) p)) i) d) g)
+      came_standing t u p i o y None e d (settled_few t u p y.level y (in_use y) (own_tidy y (page (pages_of t) p).level (exact_at (pages_of t) (in_use (page (pages_of t) p)) i) d) g)
 
 -- the page that was made exact, in its place or past the end
 pub exact_there : (ps : List Page) (p i : ℕ) → page (set ps p (exact_page ps p i)) p ≡ exact_page ps p i
@@ -131,7 +120,7 @@ exact_tidy_there t w p i h g =
     let e : page (pages_of w) p ≡ exact_page ps p i = ap (λ qs. page qs p) g.pages_are ∙ exact_there ps p i in
     subst TidyPage (sym e) (tidy_from (page ps p).level (exact_at ps (in_use (page ps p)) i) (omega (arith, exact_length ps (in_use (page ps p)) i, h.most)))
 
-pub came_split_here : (t w u : List ℕ) (p i q : ℕ) (o : code-became.Became) (e : Entry) (r : code-became.Became) → TidyPage (page (pages_of t) p) → o ≡ case.Split q → e ≡ summary_of q (page (pages_of t) q)
+pub came_split_here : (t w u : List ℕ) (p i q : ℕ) (o : Option ℕ) (e : Entry) (r : Option ℕ) → TidyPage (page (pages_of t) p) → o ≡ Some q → e ≡ summary_of q (page (pages_of t) q)
     → Leaves t w (set (pages_of t) p (exact_page (pages_of t) p i)) → Settles w u r (settled_at (pages_of w) p e) → Settles t u r (came_back (became_of o) (pages_of t) p i)
 came_split_here t w u p i q o e r h d m g s =
     let ps = pages_of t in

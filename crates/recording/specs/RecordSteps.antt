@@ -9,9 +9,9 @@ use Rattle.wellformed.specs.WellFormed.{page, most_accepted}
 use Rattle.recording.specs.declared.walk.Walked as code-walked
 use Rattle.recording.specs.declared.Outcome as code-outcome
 use Rattle.recording.specs.declared.Outcome.TheVariants as case
-use Rattle.recording.specs.declared.sound.Answered as code-answered
+use Rattle.recording.specs.declared.Recorded as code-recorded
 use Rattle.rules.specs.Scan.{Sought, handed_in}
-use Rattle.rules.specs.Recording.{Walked, from_root, put_root_right, collapse, Outcome, Outcome.Kept, Outcome.Cut, Outcome.Covered, outcome_of, Recorded, recorded}
+use Rattle.rules.specs.Recording.{from_root, put_root_right, collapse, Outcome, Outcome.Kept, Outcome.Cut, Outcome.Covered, outcome_of, Recorded, recorded}
 use Rattle.recording.specs.RootSteps.{Roots, RootsIf, LevelFits}
 use Rattle.recording.specs.Views.{most_struck, sought_of, became_of, Walks}
 
@@ -42,15 +42,15 @@ pub record SmallIs (r x : Small) (struck more : ℕ) : Type 0 where
   pub struck_is : r.struck ≡ struck + min more most_struck
   pub covered_is : r.covered ≡ x.covered
 
-pub record RecordsOn (before after : List ℕ) (s : Small) (r : code-answered.Answered) (x : Recorded) : Type 0 where
+pub record RecordsOn (before after : List ℕ) (s small : Small) (r : code-recorded.Recorded) (x : Recorded) : Type 0 where
   pub pages_are : pages_of after ≡ x.pages
   pub outcome_is_lem : outcome_is r.outcome ≡ x.answer.outcome
   pub struck_is : r.struck ≡ min x.answer.struck most_struck
-  pub small_is : SmallIs r.small x.small s.struck x.answer.struck
+  pub small_is : SmallIs small x.small s.struck x.answer.struck
 
-pub record Records (before after : List ℕ) (s : Small) (b : Box) (v : ℕ) (r : code-answered.Answered) : Type 0 where
+pub record Records (before after : List ℕ) (s small : Small) (b : Box) (v : ℕ) (r : code-recorded.Recorded) : Type 0 where
   pub same_length : length after ≡ length before
-  pub records : RootLevelFits (pages_of before) s b v → RecordsOn before after s r (recorded (pages_of before) s b v)
+  pub records : RootLevelFits (pages_of before) s b v → RecordsOn before after s small r (recorded (pages_of before) s b v)
 
 pub record SmallMade (after : List ℕ) (s : Small) (w : code-walked.Walked) (root : ℕ) (r : Small) : Type 0 where
   pub root_is : r.root ≡ root
@@ -62,7 +62,7 @@ pub record SmallMade (after : List ℕ) (s : Small) (w : code-walked.Walked) (ro
 pub all_recorded : (t u w z : List ℕ) (s small : Small) (b : Box) (v q r : ℕ) (walked : code-walked.Walked) (o : code-outcome.Outcome) → Walks t u walked (from_root (s.height - 1) v (pages_of t) s.root (handed_in b))
     → RootsIf (LevelFits (pages_of u) s.root) u w q (put_root_right (became_of walked.became) (pages_of u) s.root)
     → Roots w z r (collapse s.height (pages_of w) q) → outcome_is o ≡ outcome_of (sought_of walked.sought) → SmallMade z s walked r small
-    → Records t z s b v (record { outcome = o; struck = walked.struck; small = small })
+    → Records t z s small b v (record { outcome = o; struck = walked.struck })
 unfolding recorded
 all_recorded t u w z s small b v q r walked o h g k e m =
     let x = from_root (s.height - 1) v (pages_of t) s.root (handed_in b) in

@@ -1,42 +1,33 @@
 -- The root in the code's order: the walk from it, the new root, the collapse.
-use Rattle.std.specs.Prelude.{ℕ, zero, suc, ◌+◌, ◌-◌, ◌≤◌, ◌<◌, min, Bool, true, false, ◌≡◌, refl, leb, eqb, length, get_or, set}
+use Rattle.std.specs.Prelude.{ℕ, zero, suc, ◌+◌, ◌-◌, ◌<◌, min, Bool, true, false, ◌≡◌, refl, leb, eqb, length, get_or, set}
 use mathlib.Core.List.{List, [], ◌∷◌}
 use Rattle.std.proofs.Common.{sym, ap₂, subst, ◌∙◌, arith, eqb-true, get_or-take}
 use Rattle.std.proofs.Math.Path.{ap}
 use Rattle.ground.specs.Tests.{both}
 use Rattle.ground.specs.declared.boxes.Box.{Box}
 use Rattle.pages.specs.Layout.{table_fits, pages_of, zero_entry, free_page}
-use Rattle.pages.specs.Free.{lowest_free}
 use Rattle.pages.specs.Summary.{in_use, summary_of}
 use Rattle.pages.specs.declared.Entry.{Entry}
-use Rattle.pages.specs.declared.FreePage.{FreePage}
-use Rattle.pages.specs.declared.FreePage.TheVariants.{At, NoPage}
 use Rattle.pages.specs.declared.Page.{Page}
 use Rattle.split.specs.Split.{page_from}
 use Rattle.wellformed.specs.WellFormed.{page}
-use Rattle.recording.specs.declared.settle.Became as code-became
-use Rattle.recording.specs.declared.settle.Became.TheVariants as case
 use Rattle.recording.specs.declared.walk.Walked as code-walked
 use Rattle.recording.specs.declared.scan.Sought as code-sought
 use Rattle.rules.specs.CameLaws.{Before, Begun, strike_begun}
 use Rattle.rules.specs.EmptyRoot.{leaf_begun}
-use Rattle.rules.specs.Recording.{Walked, walk_down, leaf_if_empty, from_root, Rooted, new_root_at, put_root_right, one_entry, collapse_by, collapse}
+use Rattle.rules.specs.Recording.{walk_down, leaf_if_empty, from_root, Rooted, one_entry, collapse_by, collapse}
 use Rattle.rules.specs.Strike.{strike_page}
 use Rattle.recording.specs.LookSteps.{Within}
 use Rattle.recording.specs.TableSteps.{still_fits, UsedAt}
 use Rattle.recording.specs.WalkSteps.{MayStrike, MayWalk, may_strike}
 use Rattle.recording.specs.WithinLaws.{legal_within}
-use Rattle.recording.specs.Views.{Leaves, Frees, most_struck, sought_of, became_of, Walks, WalksOn}
-use Rattle.sieve.specs.Sieve.{IsSieve, sieve_of, question_of}
-use Rattle.sieve.specs.SieveLaws.{sieve_is, question_of_lem}
+use Rattle.recording.specs.Views.{Leaves, Frees, most_struck, sought_of, Walks, WalksOn}
 
 -- from the root: the strike, and step 2
-pub may_begin : (n v : ℕ) (t q : List ℕ) (r : ℕ) (s : code-sought.Sought) → table_fits t ≡ true → Before n v (pages_of t) r (sought_of s) → q ≡ sieve_of s.place → MayStrike t q r s.place
-may_begin n v t q r s f h e =
-    may_strike n v t q r (sought_of s) f h (subst IsSieve (sym e) (sieve_is s.place))
-    (subst (λ (x : Box). Within x s.place) (sym (ap question_of e ∙ question_of_lem s.place)) (legal_within s.place h.lawful))
+pub may_begin : (n v : ℕ) (t : List ℕ) (q : Box) (r : ℕ) (s : code-sought.Sought) → table_fits t ≡ true → Before n v (pages_of t) r (sought_of s) → q ≡ s.place → MayStrike t q r s.place
+may_begin n v t q r s f h e = may_strike n v t q r (sought_of s) f h (subst (λ (x : Box). Within x s.place) (sym e) (legal_within s.place h.lawful))
 
-module _ (n v r k used : ℕ) (t u q : List ℕ) (s : code-sought.Sought) (h : Before n v (pages_of t) r (sought_of s)) (may : MayStrike t q r s.place) (f : Frees t u 0 k (strike_page n s.place v (pages_of t) r)) (a : UsedAt u r used) where
+module _ (n v r k used : ℕ) (t u : List ℕ) (q : Box) (s : code-sought.Sought) (h : Before n v (pages_of t) r (sought_of s)) (may : MayStrike t q r s.place) (f : Frees t u k (strike_page n s.place v (pages_of t) r)) (a : UsedAt u r used) where
   struck : Begun n v (pages_of u) r (sought_of s)
   struck = subst (λ (ps : List Page). Begun n v ps r (sought_of s)) (sym f.pages_are) (strike_begun n v (pages_of t) r (sought_of s) h)
 
@@ -67,7 +58,6 @@ module _ (n v r k used : ℕ) (t u q : List ℕ) (s : code-sought.Sought) (h : B
           fits = still_fits t w may.fits (l.same_length ∙ f.same_length);
           begun = subst (λ (ps : List Page). Begun 0 v ps r (sought_of s)) (sym leaf) (leaf_begun n v (pages_of u) r (sought_of s) struck.before empty);
           some = λ z. absurd (omega arith);
-          sieve = may.sieve;
           within = may.within;
         }
 
@@ -82,7 +72,7 @@ module _ (n v r k used : ℕ) (t u q : List ℕ) (s : code-sought.Sought) (h : B
   -- some are left
   module _ (some : used ≡ 0 → ⊥) where
     pub may_walk_left : MayWalk n v u q r (sought_of s)
-    may_walk_left = record { fits = still_fits t u may.fits f.same_length; begun = struck; some = λ z. omega (arith, a.is); sieve = may.sieve; within = may.within }
+    may_walk_left = record { fits = still_fits t u may.fits f.same_length; begun = struck; some = λ z. omega (arith, a.is); within = may.within }
 
     pub from_left : (x : List ℕ) (o : code-walked.Walked) → WalksOn u x k o (walk_down n v (pages_of u) r (sought_of s)) → Walks t x o (from_root n v (pages_of t) r (sought_of s))
     from_left x o g =
@@ -114,28 +104,31 @@ pub record Collapsing (n : ℕ) (before after : List ℕ) (r : ℕ) (target : Ro
   pub same_length : length after ≡ length before
   pub leads : collapse n (pages_of after) r ≡ target
 
-pub collapse_turn : (n r c : ℕ) (t u w : List ℕ) (x : Page) (one : Bool) (target : Rooted) → 0 < n → x ≡ page (pages_of u) r → one ≡ one_entry x → one ≡ true → c ≡ (get_or (in_use x) 0 zero_entry).child → Leaves u w (set (pages_of u) r free_page)
-    → Collapsing n t u r target → Collapsing (n - 1) t w c target
+collapse_next : (n r c : ℕ) (t u w : List ℕ) (target : Rooted) → one_entry (page (pages_of u) r) ≡ true → c ≡ (get_or (in_use (page (pages_of u) r)) 0 zero_entry).child → Leaves u w (set (pages_of u) r free_page)
+    → Collapsing (suc n) t u r target → Collapsing n t w c target
 unfolding collapse
-collapse_turn zero r c t u w x one target o e d q f l h = absurd (omega arith)
-collapse_turn (suc n) r c t u w x one target o e d q f l h =
-    let m : suc n - 1 ≡ n = omega arith in
-    let i : one_entry (page (pages_of u) r) ≡ true = sym (ap one_entry e) ∙ sym d ∙ q in
-    let k : x.count ≡ 1 = eqb-true x.count 1 (both (leb 2 x.level) (eqb x.count 1) (sym d ∙ q)).1 in
+collapse_next n r c t u w target i f l h =
+    let x = page (pages_of u) r in
+    let k : x.count ≡ 1 = eqb-true x.count 1 (both (leb 2 x.level) (eqb x.count 1) i).1 in
     let j : c ≡ (get_or x.entries 0 zero_entry).child = f ∙ ap (λ (y : Entry). y.child) (get_or-take x.count x.entries 0 zero_entry (omega arith)) in
-    let g : collapse n (pages_of w) c ≡ collapse (suc n) (pages_of u) r =
-    ap₂ (λ ps b. collapse n ps b) l.pages_are (j ∙ ap (λ (y : Page). (get_or y.entries 0 zero_entry).child) e) ∙ sym (ap (λ b. collapse_by b (collapse n) (pages_of u) r) i) in
-    rw m (record { same_length = l.same_length ∙ h.same_length; leads = g ∙ h.leads })
+    let g : collapse n (pages_of w) c ≡ collapse (suc n) (pages_of u) r = ap₂ (λ ps b. collapse n ps b) l.pages_are j ∙ sym (ap (λ b. collapse_by b (collapse n) (pages_of u) r) i) in
+    record { same_length = l.same_length ∙ h.same_length; leads = g ∙ h.leads }
 
-pub collapse_done : (n r : ℕ) (t u : List ℕ) (x : Page) (one : Bool) (target : Rooted) → x ≡ page (pages_of u) r → one ≡ one_entry x → one ≡ false → Collapsing n t u r target → Roots t u r target
+pub collapse_turn : (n k r s c : ℕ) (t u w : List ℕ) (one : Bool) (target : Rooted) → k < n → one ≡ one_entry (page (pages_of u) r) → one ≡ true → s ≡ r → c ≡ (get_or (in_use (page (pages_of u) s)) 0 zero_entry).child → Leaves u w (set (pages_of u) r free_page)
+    → Collapsing (n - k) t u r target → Collapsing (n - (k + 1)) t w c target
+collapse_turn n k r s c t u w one target o d q z f l h =
+    let e : n - k ≡ suc (n - (k + 1)) = omega arith in
+    collapse_next (n - (k + 1)) r c t u w target (sym d ∙ q) (f ∙ ap (λ m. (get_or (in_use (page (pages_of u) m)) 0 zero_entry).child) z) l (rw e at h)
+
+pub collapse_done : (n r : ℕ) (t u : List ℕ) (one : Bool) (target : Rooted) → one ≡ one_entry (page (pages_of u) r) → one ≡ false → Collapsing n t u r target → Roots t u r target
 unfolding collapse
-collapse_done zero r t u x one target e d q h = record { same_length = h.same_length; pages_are = ap (λ y. y.pages) h.leads; root_is = ap (λ y. y.root) h.leads }
-collapse_done (suc n) r t u x one target e d q h =
-    let i : one_entry (page (pages_of u) r) ≡ false = sym (ap one_entry e) ∙ sym d ∙ q in
+collapse_done zero r t u one target d q h = record { same_length = h.same_length; pages_are = ap (λ y. y.pages) h.leads; root_is = ap (λ y. y.root) h.leads }
+collapse_done (suc n) r t u one target d q h =
+    let i : one_entry (page (pages_of u) r) ≡ false = sym d ∙ q in
     let g : record { pages = pages_of u; root = r } ≡ target = sym (ap (λ b. collapse_by b (collapse n) (pages_of u) r) i) ∙ h.leads in
     record { same_length = h.same_length; pages_are = ap (λ y. y.pages) g; root_is = ap (λ y. y.root) g }
 
-pub collapse_out : (n r : ℕ) (t u : List ℕ) (target : Rooted) → n ≤ 0 → Collapsing n t u r target → Roots t u r target
+pub collapse_out : (n r : ℕ) (t u : List ℕ) (target : Rooted) → n ≡ 0 → Collapsing n t u r target → Roots t u r target
 unfolding collapse
 collapse_out zero r t u target l h = record { same_length = h.same_length; pages_are = ap (λ y. y.pages) h.leads; root_is = ap (λ y. y.root) h.leads }
 collapse_out (suc n) r t u target l h = absurd (omega arith)
@@ -156,30 +149,9 @@ pub record RootsIf (fits : Type 0) (before after : List ℕ) (root : ℕ) (x : R
   pub same_length : length after ≡ length before
   pub roots : fits → Roots before after root x
 
-pub new_root_at_lem : (t u : List ℕ) (r q f : ℕ) (free : FreePage) (y : Page) → free ≡ lowest_free (pages_of t) → free ≡ At f → (LevelFits (pages_of t) r → y ≡ page_from ((page (pages_of t) r).level + 1) (summary_of r (page (pages_of t) r) ∷ summary_of q (page (pages_of t) q) ∷ []))
-    → Leaves t u (set (pages_of t) f y) → RootsIf (LevelFits (pages_of t) r) t u f (new_root_at (lowest_free (pages_of t)) (pages_of t) r q)
-new_root_at_lem t u r q f free y e d h l =
-    let z : lowest_free (pages_of t) ≡ At f = sym e ∙ d in
-    record {
-      same_length = l.same_length;
-      roots = λ k. rw z (record { same_length = l.same_length; pages_are = l.pages_are ∙ ap (set (pages_of t) f) (h k); root_is = refl });
-    }
-
-pub new_root_none : (t : List ℕ) (r q : ℕ) (free : FreePage) → free ≡ lowest_free (pages_of t) → free ≡ NoPage → RootsIf (LevelFits (pages_of t) r) t t r (new_root_at (lowest_free (pages_of t)) (pages_of t) r q)
-new_root_none t r q free e d =
-    let z : lowest_free (pages_of t) ≡ NoPage = sym e ∙ d in
-    record { same_length = refl; roots = λ k. rw z (root_stays t r) }
-
-pub right_stands : (t : List ℕ) (o : code-became.Became) (r : ℕ) → o ≡ case.Stands → RootsIf (LevelFits (pages_of t) r) t t r (put_root_right (became_of o) (pages_of t) r)
-right_stands t o r e = rw e (record { same_length = refl; roots = λ k. root_stays t r })
-
-pub right_split : (t u : List ℕ) (o : code-became.Became) (r q k : ℕ) → o ≡ case.Split q → RootsIf (LevelFits (pages_of t) r) t u k (new_root_at (lowest_free (pages_of t)) (pages_of t) r q) → RootsIf (LevelFits (pages_of t) r) t u k (put_root_right (became_of o) (pages_of t) r)
-right_split t u o r q k e h = rw e h
-
 pub record Above (ps : List Page) (r q : ℕ) (y : Page) : Type 0 where
   pub is : LevelFits ps r → y ≡ page_from ((page ps r).level + 1) (summary_of r (page ps r) ∷ summary_of q (page ps q) ∷ [])
 
-pub above_made : (ps : List Page) (r q l : ℕ) (x old : Page) (a b : Entry) → old ≡ page ps r → x ≡ free_page → (old.level < 65_535 → l ≡ old.level + 1) → a ≡ summary_of r (page ps r) → b ≡ summary_of q (page ps q) → Above ps r q (record { level = l; count = 2; entries = set (set x.entries 0 a) 1 b })
-above_made ps r q l x old a b o e h f g =
-    let m : old.level ≡ (page ps r).level = ap (λ (y : Page). y.level) o in
-    record { is = λ k. above_is ps r q l a b (record { level = l; count = 2; entries = set (set x.entries 0 a) 1 b }) (h (omega arith) ∙ ap (λ n. n + 1) m) f g (two_entries l x a b e) }
+pub above_made : (ps : List Page) (r q l m : ℕ) (x : Page) (a b : Entry) → l ≡ (page ps r).level → x ≡ free_page → m ≡ min (l + 1) 65_535 → a ≡ summary_of r (page ps r) → b ≡ summary_of q (page ps q)
+    → Above ps r q (record { level = m; count = 2; entries = set (set x.entries 0 a) 1 b })
+above_made ps r q l m x a b e h s f g = record { is = λ k. above_is ps r q m a b (record { level = m; count = 2; entries = set (set x.entries 0 a) 1 b }) (omega arith) f g (two_entries m x a b h) }

@@ -1,5 +1,5 @@
 -- A page settled, and a page come back to, in the code's order. What is recorded and the struck count pass through unchanged.
-use Rattle.std.specs.Prelude.{ℕ, ◌+◌, ◌-◌, ◌≤◌, ◌<◌, Bool, true, false, List, [], ◌∷◌, ◌++◌, ◌≡◌, refl, leb, length, set, replicate}
+use Rattle.std.specs.Prelude.{Some, None, Option, ℕ, ◌-◌, ◌≤◌, ◌<◌, Bool, true, false, List, [], ◌∷◌, ◌++◌, ◌≡◌, refl, leb, length, set, replicate}
 use Rattle.std.proofs.Common.{append-nil, sym, ap, ap₂, ◌∙◌, arith, le-leb, length-append}
 use Rattle.std.proofs.lemmas.Bool.{lt-leb}
 use Rattle.pages.specs.Facts.{fitting}
@@ -9,14 +9,10 @@ use Rattle.pages.specs.Layout.{page_entries, most_pages, zero_box, zero_entry, t
 use Rattle.pages.specs.LayoutLaws.{pages_length}
 use Rattle.pages.specs.Summary.{in_use, summary_of}
 use Rattle.pages.specs.declared.Entry.{Entry}
-use Rattle.pages.specs.declared.FreePage.{FreePage}
-use Rattle.pages.specs.declared.FreePage.TheVariants.{At, NoPage}
 use Rattle.pages.specs.declared.Page.{Page}
 use Rattle.split.specs.Split.{halves, page_from, pages_from}
 use Rattle.split.specs.declared.filling.Halves.{Halves}
 use Rattle.wellformed.specs.WellFormed.{page}
-use Rattle.recording.specs.declared.settle.Became as code-became
-use Rattle.recording.specs.declared.settle.Became.TheVariants as case
 use Rattle.rules.specs.Scan.{Sought, handed_in}
 use Rattle.rules.specs.Recording.{Became, Became.stands, Became.split, Walked, into_page, split_page, settle_by, settle, exact_at, come_back_by, come_back}
 use Rattle.recording.specs.PageSteps.{Tidy, in_use_is, level_is, count_is}
@@ -40,9 +36,9 @@ pub settle_passes : (ps : List Page) (p level : ℕ) (es : List Entry) (s : Soug
 unfolding settled settle split_page
 settle_passes ps p level es s k = by_test (leb (length es) page_entries)
   where
-    by_free : (f : FreePage) (qs : List Page) (xs : List Entry) → into_page f qs level xs s k ≡ passing (settled_by (into_page f qs level xs (handed_in zero_box) 0)) s k
-    by_free (At q) qs xs = refl
-    by_free NoPage qs xs = refl
+    by_free : (f : Option ℕ) (qs : List Page) (xs : List Entry) → into_page f qs level xs s k ≡ passing (settled_by (into_page f qs level xs (handed_in zero_box) 0)) s k
+    by_free (Some q) qs xs = refl
+    by_free None qs xs = refl
 
     by_test : (t : Bool) → settle_by t ps p level es s k ≡ passing (settled_by (settle_by t ps p level es (handed_in zero_box) 0)) s k
     by_test true = refl
@@ -61,19 +57,19 @@ come_back_passes p i w = by_case w.became
     by_case (split q) = settle_passes w.pages p (page w.pages p).level (exact_at w.pages (in_use (page w.pages p)) i ++ (summary_of q (page w.pages q) ∷ [])) w.sought w.struck
 
 -- a table so settled
-pub record Settles (before after : List ℕ) (r : code-became.Became) (x : Settled) : Type 0 where
+pub record Settles (before after : List ℕ) (r : Option ℕ) (x : Settled) : Type 0 where
   pub same_length : length after ≡ length before
   pub pages_are : pages_of after ≡ x.pages
   pub became_is : became_of r ≡ x.became
 
 -- at most eight entries
-pub settled_few : (t u : List ℕ) (p level : ℕ) (x : Page) (es : List Entry) → Tidy x level es → Leaves t u (set (pages_of t) p x) → Settles t u case.Stands (settled (pages_of t) p level es)
+pub settled_few : (t u : List ℕ) (p level : ℕ) (x : Page) (es : List Entry) → Tidy x level es → Leaves t u (set (pages_of t) p x) → Settles t u None (settled (pages_of t) p level es)
 unfolding settled settle
 settled_few t u p level x es h l =
     rw (le-leb (length es) page_entries h.most) (record { same_length = l.same_length; pages_are = l.pages_are ∙ ap (set (pages_of t) p) h.is; became_is = refl })
 
 -- as many entries in use as the page's own
-pub settled_own : (t u : List ℕ) (p level : ℕ) (x : Page) (es : List Entry) (r : code-became.Became) → Tidy x level es → Settles t u r (settled (pages_of t) p x.level (in_use x)) → Settles t u r (settled (pages_of t) p level es)
+pub settled_own : (t u : List ℕ) (p level : ℕ) (x : Page) (es : List Entry) (r : Option ℕ) → Tidy x level es → Settles t u r (settled (pages_of t) p x.level (in_use x)) → Settles t u r (settled (pages_of t) p level es)
 settled_own t u p level x es r h s = rw (level_is x level es h.is, in_use_is x level es h.is) at s
 
 pub own_tidy : (x : Page) (level : ℕ) (es : List Entry) → Tidy x level es → Tidy x x.level (in_use x)
@@ -95,41 +91,41 @@ full_entries x e h l =
 nine_split : (x : Page) (e : Entry) → Tidy x x.level (in_use x) → page_entries ≤ x.count → leb (length (in_use x ++ (e ∷ []))) page_entries ≡ false
 nine_split x e h l = lt-leb (length (in_use x ++ (e ∷ []))) page_entries (omega (arith, length-append (in_use x) (e ∷ []), count_is x x.level (in_use x) h.is))
 
-pub settled_split : (t u w : List ℕ) (p q : ℕ) (x : Page) (e : Entry) (h : Halves) (f : FreePage) → Tidy x x.level (in_use x) → page_entries ≤ x.count → h ≡ pages_from x.level (halves (x.entries ++ (e ∷ [])))
-    → Leaves t u (set (pages_of t) p h.first) → f ≡ lowest_free (pages_of u) → f ≡ At q → Leaves u w (set (pages_of u) q h.second) → Settles t w (case.Split q) (settled (pages_of t) p x.level (in_use x ++ (e ∷ [])))
+pub settled_split : (t u w : List ℕ) (p q : ℕ) (x : Page) (e : Entry) (h : Halves) → Tidy x x.level (in_use x) → page_entries ≤ x.count → h ≡ pages_from x.level (halves (x.entries ++ (e ∷ [])))
+    → Leaves t u (set (pages_of t) p h.first) → Some q ≡ lowest_free (pages_of u) → Leaves u w (set (pages_of u) q h.second) → Settles t w (Some q) (settled (pages_of t) p x.level (in_use x ++ (e ∷ [])))
 unfolding settled settle split_page
-settled_split t u w p q x e h f o n d a g z b =
+settled_split t u w p q x e h o n d a g b =
     let es = in_use x ++ (e ∷ []) in
     let m : h ≡ pages_from x.level (halves es) = d ∙ ap (λ xs. pages_from x.level (halves xs)) (full_entries x e o n) in
     let qs = set (pages_of t) p (page_from x.level (halves es).first) in
     let v : pages_of u ≡ qs = a.pages_are ∙ ap (λ (y : Halves). set (pages_of t) p y.first) m in
-    let free : lowest_free qs ≡ At q = sym (ap lowest_free v) ∙ sym g ∙ z in
+    let free : lowest_free qs ≡ Some q = sym (ap lowest_free v) ∙ sym g in
     rw (nine_split x e o n, free)
     (record { same_length = b.same_length ∙ a.same_length; pages_are = b.pages_are ∙ ap₂ (λ xs (y : Halves). set xs q y.second) v m; became_is = refl })
 
-pub settled_unsplit : (t u : List ℕ) (p : ℕ) (x : Page) (e : Entry) (h : Halves) (f : FreePage) → Tidy x x.level (in_use x) → page_entries ≤ x.count → h ≡ pages_from x.level (halves (x.entries ++ (e ∷ [])))
-    → Leaves t u (set (pages_of t) p h.first) → f ≡ lowest_free (pages_of u) → f ≡ NoPage → Settles t u case.Stands (settled (pages_of t) p x.level (in_use x ++ (e ∷ [])))
+pub settled_unsplit : (t u : List ℕ) (p : ℕ) (x : Page) (e : Entry) (h : Halves) → Tidy x x.level (in_use x) → page_entries ≤ x.count → h ≡ pages_from x.level (halves (x.entries ++ (e ∷ [])))
+    → Leaves t u (set (pages_of t) p h.first) → None ≡ lowest_free (pages_of u) → Settles t u None (settled (pages_of t) p x.level (in_use x ++ (e ∷ [])))
 unfolding settled settle split_page
-settled_unsplit t u p x e h f o n d a g z =
+settled_unsplit t u p x e h o n d a g =
     let es = in_use x ++ (e ∷ []) in
     let m : h ≡ pages_from x.level (halves es) = d ∙ ap (λ xs. pages_from x.level (halves xs)) (full_entries x e o n) in
     let qs = set (pages_of t) p (page_from x.level (halves es).first) in
     let v : pages_of u ≡ qs = a.pages_are ∙ ap (λ (y : Halves). set (pages_of t) p y.first) m in
-    let free : lowest_free qs ≡ NoPage = sym (ap lowest_free v) ∙ sym g ∙ z in
+    let free : lowest_free qs ≡ None = sym (ap lowest_free v) ∙ sym g in
     rw (nine_split x e o n, free)
     (record { same_length = a.same_length; pages_are = v; became_is = refl })
 
 -- a free page's number is a word
-pub free_number : (u : List ℕ) (q : ℕ) (f : FreePage) → table_fits u ≡ true → f ≡ lowest_free (pages_of u) → f ≡ At q → q < most_pages
-free_number u q f h e z = let l = lowest_at (pages_of u) q (sym e ∙ z) in omega (arith, l.within, pages_length u, (fitting u h).most)
+pub free_number : (u : List ℕ) (q : ℕ) → table_fits u ≡ true → Some q ≡ lowest_free (pages_of u) → q < most_pages
+free_number u q h e = let l = lowest_at (pages_of u) q (sym e) in omega (arith, l.within, pages_length u, (fitting u h).most)
 
 -- the two ways back
-pub came_standing : (t u : List ℕ) (p i : ℕ) (o : code-became.Became) (y : Page) (r : code-became.Became) → o ≡ case.Stands → Tidy y (page (pages_of t) p).level (exact_at (pages_of t) (in_use (page (pages_of t) p)) i)
+pub came_standing : (t u : List ℕ) (p i : ℕ) (o : Option ℕ) (y : Page) (r : Option ℕ) → o ≡ None → Tidy y (page (pages_of t) p).level (exact_at (pages_of t) (in_use (page (pages_of t) p)) i)
     → Settles t u r (settled (pages_of t) p y.level (in_use y)) → Settles t u r (came_back (became_of o) (pages_of t) p i)
 unfolding came_back come_back settled
 came_standing t u p i o y r e h s = rw e (settled_own t u p (page (pages_of t) p).level y (exact_at (pages_of t) (in_use (page (pages_of t) p)) i) r h s)
 
-pub came_split : (t u : List ℕ) (p i q : ℕ) (o : code-became.Became) (y : Page) (e : Entry) (r : code-became.Became) → o ≡ case.Split q → Tidy y (page (pages_of t) p).level (exact_at (pages_of t) (in_use (page (pages_of t) p)) i) → e ≡ summary_of q (page (pages_of t) q)
+pub came_split : (t u : List ℕ) (p i q : ℕ) (o : Option ℕ) (y : Page) (e : Entry) (r : Option ℕ) → o ≡ Some q → Tidy y (page (pages_of t) p).level (exact_at (pages_of t) (in_use (page (pages_of t) p)) i) → e ≡ summary_of q (page (pages_of t) q)
     → Settles t u r (settled (pages_of t) p y.level (in_use y ++ (e ∷ []))) → Settles t u r (came_back (became_of o) (pages_of t) p i)
 unfolding came_back come_back settled
 came_split t u p i q o y e r d h m s =

@@ -1,10 +1,8 @@
 -- How the code's values and tables are read as those of the definitions.
-use Rattle.std.specs.Prelude.{ℕ, ◌+◌, min, List, ◌≡◌, length}
+use Rattle.std.specs.Prelude.{None, Some, Option, ℕ, ◌+◌, min, List, ◌≡◌, length}
 use Rattle.pages.specs.Layout.{pages_of}
 use Rattle.pages.specs.declared.Page.{Page}
 use Rattle.wellformed.specs.WellFormed.{most_accepted}
-use Rattle.recording.specs.declared.settle.Became as code-became
-use Rattle.recording.specs.declared.settle.Became.TheVariants as case
 use Rattle.recording.specs.declared.scan.Sought as code-sought
 use Rattle.recording.specs.declared.walk.Walked as code-walked
 use Rattle.rules.specs.Strike.{Struck}
@@ -20,18 +18,18 @@ pub record Leaves (before after : List ℕ) (ps : List Page) : Type 0 where
 abbrev pub most_struck : ℕ
 most_struck = most_accepted
 
--- Pages freed, and the records among them counted from k on.
-pub record Frees (before after : List ℕ) (k r : ℕ) (s : Struck) : Type 0 where
+-- Pages freed, and the records among them counted.
+pub record Frees (before after : List ℕ) (r : ℕ) (s : Struck) : Type 0 where
   pub same_length : length after ≡ length before
   pub pages_are : pages_of after ≡ s.pages
-  pub struck_is : r ≡ min (k + s.records) most_struck
+  pub struck_is : r ≡ min s.records most_struck
 
 abbrev pub sought_of : code-sought.Sought → Sought
 sought_of s = record { box = s.place; is_cut = s.cut; is_covered = s.covered }
 
-abbrev pub became_of : code-became.Became → Became
-became_of case.Stands = stands
-became_of (case.Split q) = split q
+abbrev pub became_of : Option ℕ → Became
+became_of None = stands
+became_of (Some q) = split q
 
 -- What a walk leaves and hands back.
 pub record Walks (before after : List ℕ) (r : code-walked.Walked) (w : Walked) : Type 0 where

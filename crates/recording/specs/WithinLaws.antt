@@ -1,6 +1,6 @@
 -- What a scan leaves of the box lies where the box lay.
 use Rattle.std.specs.Prelude.{ℕ, true, List, [], ◌∷◌, ◌≡◌}
-use Rattle.std.proofs.Common.{arith}
+use Rattle.std.proofs.Common.{arith, subst, sym}
 use Rattle.ground.specs.Boxes.{legal}
 use Rattle.ground.specs.Facts.{lawful}
 use Rattle.ground.specs.declared.boxes.Box.{Box}
@@ -17,3 +17,7 @@ pub scan_within : (q : Box) (n v : ℕ) (es : List Entry) (s : Sought) → Withi
 unfolding scan
 scan_within q n v [] s w = w
 scan_within q n v (e ∷ es) s w = scan_within q n v es (scan_entry n v e s) (entry_within q n v e s w)
+
+-- so far
+pub still_within : (q : Box) (n v : ℕ) (es : List Entry) (s found : Sought) → Within q s.box → found ≡ scan n v es s → Within q found.box
+still_within q n v es s found w e = subst (λ (x : Sought). Within q x.box) (sym e) (scan_within q n v es s w)

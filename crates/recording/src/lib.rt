@@ -5,6 +5,7 @@
 mod call;
 mod choose;
 mod look;
+mod news;
 mod refusal;
 mod root;
 mod scan;
@@ -15,26 +16,18 @@ mod table;
 mod walk;
 
 pub use call::{record, record_sound};
-use pages::Small;
 
-// The answer: Kept, Cut (kept after a cut) or Covered.
-#[derive(Clone, Copy)]
+// How a record was taken: Kept, Cut (kept after a cut) or Covered.
+#[derive(Clone, Copy, Debug, PartialEq, Eq)]
 pub enum Outcome {
     Kept,
     Cut,
     Covered,
 }
 
-// A refusal's number, or the answer with the struck count.
-#[derive(Clone, Copy)]
-pub enum Reply {
-    Refused(u8),
-    Says(Outcome, u32),
-}
-
-// The reply, and the small record afterwards.
-#[derive(Clone, Copy)]
-pub struct Called {
-    pub reply: Reply,
-    pub small: Small,
+// The answer: the outcome, and how many records were struck.
+#[derive(Clone, Copy, Debug, PartialEq, Eq)]
+pub struct Recorded {
+    pub outcome: Outcome,
+    pub struck: u32,
 }

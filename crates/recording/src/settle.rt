@@ -10,14 +10,7 @@ ghost use Rattle.recording.specs.SettleSteps.{Settles, settled, came_back};
 ghost use Rattle.recording.specs.Views.{Leaves, became_of};
 
 use crate::table::{child_lying, load, put_at, store, summary, used_at};
-use pages::{Entry, FreePage, Page};
-
-// What became of a page: it stands, or it was split, and this page took the second group.
-#[derive(Clone, Copy)]
-pub enum Became {
-    Stands,
-    Split(u16),
-}
+use pages::{Entry, Page};
 
 // Where the search for a free page begins: a page of level 0 that is split could itself be the lowest.
 fn begin_at(level: u16, from: usize) -> usize
@@ -26,22 +19,17 @@ fn begin_at(level: u16, from: usize) -> usize
     if level == 0 { 0 } else { from }
 }
 
+// What becomes of a page is told by the page that took the second group, if it was split.
 // The first group stays in the page, the second takes the lowest free page. No page below `from` is free, but perhaps p.
-fn split_page(t: &mut [u16], p: usize, x: Page, e: Entry, from: usize) -> Became
+fn split_page(t: &mut [u16], p: usize, x: Page, e: Entry, from: usize) -> Option<u16>
     requires { (table_fits t.old ≡ true) × Tidy x x.level (in_use x) × (page_entries ≤ x.count) × NoneBut (pages_of t.old) p from }
     ensures { Settles t.old t.new result (settled (pages_of t.old) p x.level (in_use x ++ (e ∷ []))) }
 {
     let halves = split::split(x, e);
     store(t, p, halves.first);
-    let free = pages::lowest_free_from(t, begin_at(x.level, from));
-    match free {
-        FreePage::At(q) => {
-            let second = q as u16;
-            store(t, q, halves.second);
-            Became::Split(second)
-        }
-        FreePage::NoPage => Became::Stands,
-    }
+    let q = pages::lowest_free_from(t, begin_at(x.level, from))?;
+    store(t, q, halves.second);
+    Some(q as u16)
 }
 
 // The entry at place i made exact for the child as it now is, where the page lies.
@@ -57,32 +45,32 @@ fn make_exact(t: &mut [u16], p: usize, i: usize)
 }
 
 // With one entry more, where the page lies. No page below `from` is free, but perhaps p.
-pub fn append_at(t: &mut [u16], p: usize, e: Entry, from: usize) -> Became
+pub fn append_at(t: &mut [u16], p: usize, e: Entry, from: usize) -> Option<u16>
     requires { (table_fits t.old ≡ true) × TidyPage (page (pages_of t.old) p) × NoneBut (pages_of t.old) p from }
     ensures { Settles t.old t.new result (settled_at (pages_of t.old) p e) }
 {
     let n = used_at(t, p);
     if n < Page::ENTRIES {
         put_at(t, p, n, e, n as u16 + 1);
-        return Became::Stands;
+        return None;
     }
     split_page(t, p, load(t, p), e, from)
 }
 
 // Coming back to page p from the child at place i, of which this became.
-pub fn come_back(t: &mut [u16], p: usize, i: usize, child: Became) -> Became
+pub fn come_back(t: &mut [u16], p: usize, i: usize, child: Option<u16>) -> Option<u16>
     requires { (table_fits t.old ≡ true) × TidyPage (page (pages_of t.old) p) × Low (became_of child) (pages_of t.old) }
     ensures { Settles t.old t.new result (came_back (became_of child) (pages_of t.old) p i) }
 {
     match child {
-        Became::Stands => {
+        None => {
             make_exact(t, p, i);
-            Became::Stands
+            None
         }
-        Became::Split(q) => {
+        Some(q) => {
             let e = summary(t, q);
             make_exact(t, p, i);
-            append_at(t, p, e, q as usize)
+            append_at(t, p, e, usize::from(q))
         }
     }
 }

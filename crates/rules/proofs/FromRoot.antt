@@ -1,12 +1,11 @@
 -- The record from the root: however the root goes on, the tree has grown by the record.
-use Rattle.std.specs.Prelude.{List, [], ◌∷◌, ◌≡◌, ℕ, suc, ◌+◌, ◌≤◌, length, set}
+use Rattle.std.specs.Prelude.{Option, List, [], ◌∷◌, ◌≡◌, ℕ, suc, ◌+◌, ◌≤◌, length, set}
 use Rattle.std.proofs.Math.Path.{refl}
 use Rattle.std.proofs.Common.{sym, ap, ◌∙◌, subst, add-one, arith}
 use Rattle.pages.specs.Free.{free_count, lowest_free}
 use Rattle.pages.specs.FreeLaws.{lowest_at, lowest_found}
 use Rattle.pages.specs.Summary.{in_use}
 use Rattle.pages.specs.declared.Entry.{Entry}
-use Rattle.pages.specs.declared.FreePage.{FreePage}
 use Rattle.pages.specs.declared.Page.{Page}
 use Rattle.split.specs.Split.{page_from}
 use Rattle.split.specs.SplitLaws.{Each}
@@ -59,7 +58,7 @@ module _ (n v : ℕ) (ps : List Page) (r : ℕ) (s : Sought) (h : Before n v ps 
           most = omega (arith, few);
           grown = subst (λ (k : ℕ). Grown n v ps r s.box w.struck w.sought (set w.pages f.0 (page_from k (handle w.pages r ∷ handle w.pages q ∷ []))) f.0 (suc m)) (sym d) g;
         } in
-        subst (λ (x : FreePage). GrownTo n v ps r s w (new_root_at x w.pages r q)) (sym f.1) (at ((page w.pages r).level + 1) l)
+        subst (λ (x : Option ℕ). GrownTo n v ps r s w (new_root_at x w.pages r q)) (sym f.1) (at ((page w.pages r).level + 1) l)
 
     by_became : (o : Became) → Handles w.pages r o c.handles → GrownTo n v ps r s w (put_root_right o w.pages r)
     by_became stands e = record { levels = m; most = omega (arith, few); grown = stands_grown n v ps r s w m few c e }

@@ -1,5 +1,5 @@
 -- What every step of the walk hands back, and the steps on one page: the strike before it, and a covered record.
-use Rattle.std.specs.Prelude.{Bool, false, ◌≡◌, refl, ℕ, suc, ◌+◌, max, ◌≤◌, ◌<◌, leb}
+use Rattle.std.specs.Prelude.{Some, None, Option, Bool, false, ◌≡◌, refl, ℕ, suc, ◌+◌, max, ◌≤◌, ◌<◌, leb}
 use Rattle.std.proofs.Math.Bool.{true, not}
 use Rattle.std.proofs.lemmas.Bool.{false≢true}
 use mathlib.Core.List.{List, [], ◌∷◌, ◌++◌, flat_map}
@@ -14,8 +14,6 @@ use Rattle.pages.specs.Layout.{page_entries}
 use Rattle.pages.specs.Summary.{in_use}
 use Rattle.pages.specs.Words.{every}
 use Rattle.pages.specs.declared.Entry.{Entry}
-use Rattle.pages.specs.declared.FreePage.{FreePage}
-use Rattle.pages.specs.declared.FreePage.TheVariants.{At, NoPage}
 use Rattle.pages.specs.declared.Page.{Page}
 use Rattle.split.specs.Split.{page_from, halves}
 use Rattle.split.specs.SplitLaws.{weigh, Each, weigh_append}
@@ -80,9 +78,9 @@ pub settle_hands_on : (ps : List Page) (p level : ℕ) (es : List Entry) (s : So
 unfolding settle split_page
 settle_hands_on ps p level es s k = by_test (leb (length es) page_entries)
   where
-    into : (x : FreePage) (qs : List Page) (fs : List Entry) → HandsOn s k (into_page x qs level fs s k)
-    into (At q) qs fs = record { sought = refl; struck = refl }
-    into NoPage qs fs = record { sought = refl; struck = refl }
+    into : (x : Option ℕ) (qs : List Page) (fs : List Entry) → HandsOn s k (into_page x qs level fs s k)
+    into (Some q) qs fs = record { sought = refl; struck = refl }
+    into None qs fs = record { sought = refl; struck = refl }
 
     by_test : (b : Bool) → HandsOn s k (settle_by b ps p level es s k)
     by_test true = record { sought = refl; struck = refl }

@@ -1,14 +1,12 @@
 -- RULES.md, section 4: the walk, from the root down and back, and what is done at the root.
 -- A page with n levels under it is a leaf if n is 0. The walk reads a page from the pages as they are, strikes there, goes down one level, and comes back to read it again.
-use Rattle.std.specs.Prelude.{ℕ, zero, suc, ◌+◌, ◌-◌, Bool, true, false, ◌&&◌, cond, List, [], ◌∷◌, ◌++◌, leb, ltb, eqb, length, get_or, set}
+use Rattle.std.specs.Prelude.{Some, None, Option, ℕ, zero, suc, ◌+◌, ◌-◌, Bool, true, false, ◌&&◌, cond, List, [], ◌∷◌, ◌++◌, leb, ltb, eqb, length, get_or, set}
 use Rattle.ground.specs.Boxes.{join, size}
 use Rattle.ground.specs.declared.boxes.Box.{Box}
 use Rattle.pages.specs.Layout.{page_entries, zero_box, zero_entry, free_page}
 use Rattle.pages.specs.Free.{lowest_free}
 use Rattle.pages.specs.Summary.{in_use, summary_of}
 use Rattle.pages.specs.declared.Entry.{Entry}
-use Rattle.pages.specs.declared.FreePage.{FreePage}
-use Rattle.pages.specs.declared.FreePage.TheVariants.{At, NoPage}
 use Rattle.pages.specs.declared.Page.{Page}
 use Rattle.pages.specs.declared.Small.{Small}
 use Rattle.split.specs.Split.{less_or_tie, halves, page_from}
@@ -55,9 +53,9 @@ abbrev pub Settle : Type 0
 Settle = List Page → ℕ → ℕ → List Entry → Sought → ℕ → Walked
 
 -- Nine entries make a split: the first group stays in the page, the second takes the lowest free page. (Refusal 6 sees to it that there is one.)
-abbrev pub into_page : FreePage → List Page → ℕ → List Entry → Sought → ℕ → Walked
-into_page (At q) ps level es s k = record { pages = set ps q (page_from level es); became = split q; sought = s; struck = k }
-into_page NoPage ps level es s k = record { pages = ps; became = stands; sought = s; struck = k }
+abbrev pub into_page : Option ℕ → List Page → ℕ → List Entry → Sought → ℕ → Walked
+into_page (Some q) ps level es s k = record { pages = set ps q (page_from level es); became = split q; sought = s; struck = k }
+into_page None ps level es s k = record { pages = ps; became = stands; sought = s; struck = k }
 
 -- Rules 4.61, 4.62, 4.64: the first group stays in the page, the second takes the lowest free page, one freed before among them.
 unfoldable pub split_page : Settle
@@ -130,9 +128,9 @@ pub record Rooted : Type 0 where
   pub root : ℕ
 
 -- Rule 4.63: a split root gets a new root in the lowest free page, with the old page's entry first.
-abbrev pub new_root_at : FreePage → List Page → ℕ → ℕ → Rooted
-new_root_at (At t) ps r q = record { pages = set ps t (page_from ((page ps r).level + 1) (summary_of r (page ps r) ∷ summary_of q (page ps q) ∷ [])); root = t }
-new_root_at NoPage ps r q = record { pages = ps; root = r }
+abbrev pub new_root_at : Option ℕ → List Page → ℕ → ℕ → Rooted
+new_root_at (Some t) ps r q = record { pages = set ps t (page_from ((page ps r).level + 1) (summary_of r (page ps r) ∷ summary_of q (page ps q) ∷ [])); root = t }
+new_root_at None ps r q = record { pages = ps; root = r }
 
 abbrev pub put_root_right : Became → List Page → ℕ → Rooted
 put_root_right stands ps r = record { pages = ps; root = r }

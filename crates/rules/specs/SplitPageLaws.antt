@@ -1,6 +1,6 @@
 -- Nine entries in a page: it is split, and both pages' entries together show what the nine showed. Then the settling of a page, by its number of entries.
 use Rattle.std.proofs.Common.{get_or-set_same, sym, ◌∙◌, leb-true, leb-false}
-use Rattle.std.specs.Prelude.{Bool, true, false, ◌≡◌, ℕ, suc, ◌+◌, ◌≤◌, leb, length, set}
+use Rattle.std.specs.Prelude.{Option, Bool, true, false, ◌≡◌, ℕ, suc, ◌+◌, ◌≤◌, leb, length, set}
 use mathlib.Core.List.{List, [], ◌∷◌, flat_map}
 use Rattle.std.proofs.Math.Path.{refl, ap, subst}
 use native.Mathlib.Omega.{arith}
@@ -9,7 +9,6 @@ use Rattle.pages.specs.FreeLaws.{LowestFree, lowest_at, lowest_found}
 use Rattle.pages.specs.Layout.{free_page, page_entries}
 use Rattle.pages.specs.Summary.{summary_of}
 use Rattle.pages.specs.declared.Entry.{Entry}
-use Rattle.pages.specs.declared.FreePage.{FreePage}
 use Rattle.pages.specs.declared.Page.{Page}
 use Rattle.split.specs.Split.{halves, page_from}
 use Rattle.split.specs.SplitLaws.{weigh, Each, halves_weigh, halves_each, nine_halves}
@@ -175,7 +174,7 @@ module _ (n : ℕ) (ps : List Page) (p : ℕ) (es : List Entry) (r : Ready n ps 
   unfolding split_page rs qs first second
   split_law s k room =
       let f = lowest_found qs (let x = first_moved.spent in omega arith) in
-      subst (λ (x : FreePage). Settled n ps p es (into_page x qs (suc n) second s k)) (sym f.1) (two_pages f.0 (lowest_at qs f.0 f.1) s k)
+      subst (λ (x : Option ℕ). Settled n ps p es (into_page x qs (suc n) second s k)) (sym f.1) (two_pages f.0 (lowest_at qs f.0 f.1) s k)
 
 -- Settling a page with one to nine entries.
 pub settle_law : (n : ℕ) (ps : List Page) (p : ℕ) (es : List Entry) → Ready n ps p es → length es ≤ 9 → 1 ≤ free_count ps → (s : Sought) (k : ℕ) → Settled n ps p es (settle ps p (suc n) es s k)

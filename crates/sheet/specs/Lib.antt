@@ -1,5 +1,4 @@
 -- A sheet of questions, and what holds of its answers.
 pub mod Sheet
 pub mod Rows
-pub mod Turns
 pub mod SheetLaws

@@ -2,7 +2,9 @@
 use Rattle.std.specs.Prelude.{ℕ, cond, List, map, ltb, length}
 use Rattle.asking.specs.Asking.{asked}
 use Rattle.asking.specs.declared.Asked.{Asked}
-use Rattle.asking.specs.declared.Asked.TheVariants as say
+use Rattle.std.specs.Prelude.{Option, Some, None, Result, Ok, Err}
+use Rattle.ground.specs.Refusals.{number}
+use Rattle.ground.specs.declared.refusals.Refusal.{Refusal}
 use Rattle.pages.specs.declared.Small.{Small}
 use Rattle.wide.specs.Wide.{as_given}
 use Rattle.wide.specs.declared.WideBox.{WideBox}
@@ -34,10 +36,13 @@ told r refusal any gust pages =
     }
 
 -- Rule 5.33: a question that is refused has its number in its own row, and 0 in the other places. Else 0; 1 and the gust, or 0 and 0 for nothing; the pages opened.
-abbrev pub filled : Row → Asked → Row
-filled r (say.Refused number) = told r number 0 0 0
-filled r (say.Nothing pages) = told r 0 0 0 pages
-filled r (say.Gust gust pages) = told r 0 1 gust pages
+abbrev pub filled_with : Row → Option ℕ → ℕ → Row
+filled_with r None pages = told r 0 0 0 pages
+filled_with r (Some gust) pages = told r 0 1 gust pages
+
+abbrev pub filled : Row → Result Asked Refusal → Row
+filled r (Err refusal) = told r (number refusal) 0 0 0
+filled r (Ok said) = filled_with r said.gust said.pages
 
 -- Rule 5.32, a row answered: what the single question answers is filled in.
 abbrev pub answered : List ℕ → Small → Row → Row

@@ -4,7 +4,9 @@ use Rattle.std.proofs.Common.{sym, ap, ◌∙◌, lt-ltb, le-ltb}
 use Rattle.asking.specs.Asking.{Said, asked, says}
 use Rattle.asking.specs.BoxMax.{box_max, touching_pages, other_pages}
 use Rattle.asking.specs.declared.Asked.{Asked}
-use Rattle.asking.specs.declared.Asked.TheVariants as say
+use Rattle.std.specs.Prelude.{Option, Some, None, Result, Ok, Err}
+use Rattle.ground.specs.declared.refusals.Refusal.{Refusal}
+use Rattle.ground.specs.declared.refusals.Refusal.TheVariants as no
 use Rattle.ground.specs.Boxes.{legal}
 use Rattle.ground.specs.declared.boxes.Box.{Box}
 use Rattle.index.specs.Run.{Call, Book, held, Moment, run, Good}
@@ -14,7 +16,7 @@ use Rattle.pages.specs.declared.Small.{Small}
 use Rattle.wellformed.specs.Parts.{parts}
 use Rattle.wellformed.specs.WellFormed.{well_formed}
 use Rattle.wide.specs.Wide.{as_given}
-use Rattle.sheet.specs.Sheet.{question, filled, answered, Left, most_rows, sheet}
+use Rattle.sheet.specs.Sheet.{question, filled, filled_with, answered, Left, most_rows, sheet}
 use Rattle.sheet.specs.declared.row.Row.{Row}
 
 -- The promise settles the number returned and every number of every row: two results that it allows are equal.
@@ -44,10 +46,13 @@ pub record Single (t : List ℕ) (s : Small) (before after : Row) : Type 0 where
   pub asks : question after ≡ question before
   pub answers : row_says after ≡ says (asked t s (box_of before))
 
-filled_single : (t : List ℕ) (s : Small) (r : Row) (a : Asked) → asked t s (box_of r) ≡ a → Single t s r (filled r a)
-filled_single t s r (say.Refused number) e = record { asks = refl; answers = ap says (sym e) }
-filled_single t s r (say.Nothing pages) e = record { asks = refl; answers = ap says (sym e) }
-filled_single t s r (say.Gust gust pages) e = record { asks = refl; answers = ap says (sym e) }
+filled_single : (t : List ℕ) (s : Small) (r : Row) (a : Result Asked Refusal) → asked t s (box_of r) ≡ a → Single t s r (filled r a)
+filled_single t s r (Err refusal) e = record { asks = refl; answers = ap says (sym e) }
+filled_single t s r (Ok a) e = by_gust a.gust e
+  where
+    by_gust : (g : Option ℕ) → asked t s (box_of r) ≡ Ok (record { gust = g; pages = a.pages }) → Single t s r (filled_with r g a.pages)
+    by_gust None f = record { asks = refl; answers = ap says (sym f) }
+    by_gust (Some gust) f = record { asks = refl; answers = ap says (sym f) }
 
 pub row_single : (t : List ℕ) (s : Small) (r : Row) → Single t s r (answered t s r)
 row_single t s r = filled_single t s r (asked t s (box_of r)) refl
@@ -77,7 +82,7 @@ module _ (m : Moment) (g : Good m) where
   abbrev s : Small
   s = m.book.small
 
-  illegal_refused : (q : Box) → legal q ≡ false → asked t s q ≡ say.Refused 2
+  illegal_refused : (q : Box) → legal q ≡ false → asked t s q ≡ Err no.Box
   unfolding asked
   illegal_refused q e = rw ((parts t s g.well_formed_lem).fits, e)
 

@@ -4,23 +4,22 @@
 mod row;
 
 ghost use Rattle.std.specs.Prelude.{◌≡◌};
+ghost use Rattle.ground.specs.Refusals.{number_of};
 ghost use Rattle.sheet.specs.Sheet.{sheet};
 
+use ground::Refusal;
 use pages::Small;
 pub use row::{Row, answer_row};
 
-// Each row is answered in its place. More than 32 rows are refused by 11, before all else; 0 is none.
-pub fn ask_sheet(t: &[u16], s: Small, rows: &mut [Row]) -> u32
-    ensures { record { refusal = result; rows = rows.new } ≡ sheet t.now s rows.old }
+// Each row is answered in its place. More than 32 rows are refused, before all else.
+pub fn ask_sheet(t: &[u16], s: Small, rows: &mut [Row]) -> Result<(), Refusal>
+    ensures { record { refusal = number_of result; rows = rows.new } ≡ sheet t.now s rows.old }
 {
-    let n = rows.len();
-    if n > Row::MOST {
-        return 11;
+    if Row::MOST < rows.len() {
+        return Err(Refusal::Sheet);
     }
-    let mut i = 0;
-    while i < n {
-        rows[i] = answer_row(t, s, rows[i]);
-        i = i + 1;
+    for row in rows.iter_mut() {
+        *row = answer_row(t, s, *row);
     }
-    0
+    Ok(())
 }

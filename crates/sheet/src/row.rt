@@ -4,12 +4,13 @@ ghost use Rattle.wide.specs.Wide.{narrowed};
 ghost use Rattle.sheet.specs.Sheet.{question, told, filled, answered};
 
 use asking::Asked;
-use ground::Box;
+use ground::{Box, Refusal};
 use pages::Small;
 use wide::{Span, WideBox};
 
+// In numbers, the answer's too: C programs lend it.
 #[repr(C)]
-#[derive(Clone, Copy)]
+#[derive(Clone, Copy, Debug, PartialEq, Eq)]
 pub struct Row {
     pub east_low: u32,
     pub east_high: u32,
@@ -53,26 +54,26 @@ impl Row {
         ensures { result ≡ told self refusal any gust pages }
     {
         Row {
-            east_low: self.east_low,
-            east_high: self.east_high,
-            north_low: self.north_low,
-            north_high: self.north_high,
-            day_low: self.day_low,
-            day_high: self.day_high,
             refusal,
             any,
             gust,
             pages,
+            ..self
         }
     }
 
-    fn filled(self, said: Asked) -> Row
+    fn filled(self, said: Result<Asked, Refusal>) -> Row
         ensures { result ≡ filled self said }
     {
         match said {
-            Asked::Refused(number) => self.told(number as u32, 0, 0, 0),
-            Asked::Nothing { pages } => self.told(0, 0, 0, pages),
-            Asked::Gust { gust, pages } => self.told(0, 1, gust as u32, pages),
+            Err(refusal) => self.told(u32::from(refusal), 0, 0, 0),
+            Ok(Asked { gust: None, pages }) => self.told(0, 0, 0, pages),
+            Ok(
+                Asked {
+                    gust: Some(gust),
+                    pages,
+                },
+            ) => self.told(0, 1, u32::from(gust), pages),
         }
     }
 }

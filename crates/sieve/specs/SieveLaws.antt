@@ -1,99 +1,73 @@
--- The sieve decides touching and covering, for every table of 16-bit words.
-use Rattle.std.specs.Prelude.{ℕ, ◌+◌, ◌≤◌, Bool, true, false, ◌&&◌, List, ◌≡◌, refl, leb, get_or}
+-- The sieve decides touching and covering, for all 16-bit words.
+use Rattle.std.specs.Prelude.{[], ◌∷◌, ◌++◌, ℕ, ◌≤◌, Bool, true, false, ◌&&◌, List, ◌≡◌, refl, leb, get_or, take, drop}
 use Rattle.std.proofs.Math.Path.{ap}
-use Rattle.std.proofs.Common.{◌∙◌, le-leb}
+use Rattle.std.proofs.Common.{◌∙◌, subst, le-leb}
 use native.Mathlib.Omega.{arith}
 use Rattle.ground.specs.Boxes.{touches, covers}
 use Rattle.ground.specs.declared.boxes.Box.{Box}
-use Rattle.pages.specs.Layout.{box_at, entry_at, entry_start, entry_in}
-use Rattle.sieve.specs.Sieve.{covered_rows, top_word, at_least, at_most, all_at_least, all_at_most, words_pass, sieve_of, question_of, IsSieve}
+use Rattle.pages.specs.Layout.{words_of_box, words_of_entry}
+use Rattle.pages.specs.Words.{every}
+use Rattle.pages.specs.declared.Entry.{Entry}
+use Rattle.sieve.specs.Sieve.{top_word, passes, touching_rows, covering_rows, question_of, IsSieve, Words}
+use Rattle.sieve.specs.declared.Rows.{Rows}
 
--- the sieve that is made is one, and its question is the one that it was made of
-pub sieve_is : (q : Box) → IsSieve (sieve_of q)
-unfolding sieve_of
-sieve_is q = record { same = refl }
+-- the sieve that is made is one
+pub sieve_is : (q : Box) → IsSieve (touching_rows q) (covering_rows q)
+unfolding touching_rows covering_rows
+sieve_is q = record { touches = refl; covers = refl }
 
-pub question_of_lem : (q : Box) → question_of (sieve_of q) ≡ q
-unfolding sieve_of
-question_of_lem q = refl
-
--- words that pass whatever they are
-pub record Words (t : List ℕ) : Type 0 where
-  pub small : (k : ℕ) → get_or t k 0 ≤ top_word
-
--- the eight words, one by one
-pub at_least_so : (t : List ℕ) (k : ℕ) (w : List ℕ) (a : ℕ) (r0 r1 r2 r3 r4 r5 r6 r7 : Bool)
-    → r0 ≡ at_least t k w a → r1 ≡ at_least t (k + 1) w (a + 1) → r2 ≡ at_least t (k + 2) w (a + 2) → r3 ≡ at_least t (k + 3) w (a + 3) → r4 ≡ at_least t (k + 4) w (a + 4) → r5 ≡ at_least t (k + 5) w (a + 5) → r6 ≡ at_least t (k + 6) w (a + 6) → r7 ≡ at_least t (k + 7) w (a + 7)
-    → r0 && r1 && r2 && r3 && r4 && r5 && r6 && r7 ≡ all_at_least t k w a
-unfolding all_at_least
-at_least_so t k w a r0 r1 r2 r3 r4 r5 r6 r7 e0 e1 e2 e3 e4 e5 e6 e7 = rw (e0, e1, e2, e3, e4, e5, e6, e7)
-
-pub at_most_so : (t : List ℕ) (k : ℕ) (w : List ℕ) (a : ℕ) (r0 r1 r2 r3 r4 r5 r6 r7 : Bool)
-    → r0 ≡ at_most t k w a → r1 ≡ at_most t (k + 1) w (a + 1) → r2 ≡ at_most t (k + 2) w (a + 2) → r3 ≡ at_most t (k + 3) w (a + 3) → r4 ≡ at_most t (k + 4) w (a + 4) → r5 ≡ at_most t (k + 5) w (a + 5) → r6 ≡ at_most t (k + 6) w (a + 6) → r7 ≡ at_most t (k + 7) w (a + 7)
-    → r0 && r1 && r2 && r3 && r4 && r5 && r6 && r7 ≡ all_at_most t k w a
-unfolding all_at_most
-at_most_so t k w a r0 r1 r2 r3 r4 r5 r6 r7 e0 e1 e2 e3 e4 e5 e6 e7 = rw (e0, e1, e2, e3, e4, e5, e6, e7)
-
--- a test of a box is two of the words beside each other, among tests that every word passes
-odd : (b d f a c e : Bool) → (true && b && true && d && true && f && true && true) && (a && true && c && true && e && true && true && true) ≡ (b && a) && (d && c) && (f && e)
-odd true true true true true true = refl
-odd true true true true true false = refl
-odd true true true true false e = refl
-odd true true true false c e = refl
-odd true true false true true e = refl
-odd true true false true false e = refl
-odd true true false false c e = refl
-odd true false f true c e = refl
-odd true false f false c e = refl
-odd false d f a c e = refl
-
-even : (a c e b d f : Bool) → (a && true && c && true && e && true && true && true) && (true && b && true && d && true && f && true && true) ≡ (a && b) && (c && d) && (e && f)
-even true true true true true true = refl
-even true true true true true false = refl
-even true true true true false f = refl
-even true true true false d f = refl
-even true true false true true f = refl
-even true true false true false f = refl
-even true true false false d f = refl
-even true false e true d f = refl
-even true false e false d f = refl
-even false c e b d f = refl
+-- three tests of low ends and three of high ones, paired
+paired : (a c e b d f : Bool) → (a && (c && (e && true))) && (b && (d && (f && true))) ≡ (a && b) && (c && d) && (e && f)
+paired true true true true true true = refl
+paired true true true true true false = refl
+paired true true true true false f = refl
+paired true true true false d f = refl
+paired true true false true true f = refl
+paired true true false true false f = refl
+paired true true false false d f = refl
+paired true false e true d f = refl
+paired true false e false d f = refl
+paired false c e b d f = refl
 
 least : (n : ℕ) → leb 0 n ≡ true
 least n = le-leb 0 n (omega arith)
 
-module _ (t : List ℕ) (k : ℕ) (q : Box) (w : Words t) where
-  greatest : (j : ℕ) → leb (get_or t j 0) top_word ≡ true
-  greatest j = le-leb (get_or t j 0) top_word (w.small j)
+-- a test of a box is two of the words beside each other, among tests that every word passes
+module _ (q b : Box) (x y : ℕ) (w : Words (words_of_box b ++ (x ∷ y ∷ []))) where
+  greatest : (k n : ℕ) → get_or (words_of_box b ++ (x ∷ y ∷ [])) k 0 ≡ n → leb n top_word ≡ true
+  greatest k n e = le-leb n top_word (subst (λ m. m ≤ top_word) e (w.small k))
 
-  pub sieve_touches : words_pass t k (sieve_of q) 0 ≡ touches q (box_at t k)
-  unfolding all_at_least all_at_most sieve_of touches box_at
-  sieve_touches =
-      let e : k + 2 + 1 ≡ k + 3 = omega arith in
-      let f : k + 4 + 1 ≡ k + 5 = omega arith in
-      rw (e, f, least (get_or t k 0), least (get_or t (k + 2) 0), least (get_or t (k + 4) 0), least (get_or t (k + 6) 0), least (get_or t (k + 7) 0))
-      (rw (greatest (k + 1), greatest (k + 3), greatest (k + 5), greatest (k + 6), greatest (k + 7))
-      (odd (leb q.east.low (get_or t (k + 1) 0)) (leb q.north.low (get_or t (k + 3) 0)) (leb q.day.low (get_or t (k + 5) 0)) (leb (get_or t k 0) q.east.high) (leb (get_or t (k + 2) 0) q.north.high) (leb (get_or t (k + 4) 0) q.day.high)))
+  pub rows_touch : passes (touching_rows q) (words_of_box b ++ (x ∷ y ∷ [])) ≡ touches q b
+  unfolding every touching_rows touches words_of_box
+  rows_touch =
+      rw (least b.east.low, least b.north.low, least b.day.low, least x, least y)
+      (rw (greatest 1 b.east.high refl, greatest 3 b.north.high refl, greatest 5 b.day.high refl, greatest 6 x refl, greatest 7 y refl)
+      (paired (leb q.east.low b.east.high) (leb q.north.low b.north.high) (leb q.day.low b.day.high) (leb b.east.low q.east.high) (leb b.north.low q.north.high) (leb b.day.low q.day.high)))
 
-  pub sieve_covers : words_pass t k (sieve_of q) covered_rows ≡ covers q (box_at t k)
-  unfolding all_at_least all_at_most sieve_of covers box_at
-  sieve_covers =
-      let e : k + 2 + 1 ≡ k + 3 = omega arith in
-      let f : k + 4 + 1 ≡ k + 5 = omega arith in
-      rw (e, f, least (get_or t (k + 1) 0), least (get_or t (k + 3) 0), least (get_or t (k + 5) 0), least (get_or t (k + 6) 0), least (get_or t (k + 7) 0))
-      (rw (greatest k, greatest (k + 2), greatest (k + 4), greatest (k + 6), greatest (k + 7))
-      (even (leb q.east.low (get_or t k 0)) (leb q.north.low (get_or t (k + 2) 0)) (leb q.day.low (get_or t (k + 4) 0)) (leb (get_or t (k + 1) 0) q.east.high) (leb (get_or t (k + 3) 0) q.north.high) (leb (get_or t (k + 5) 0) q.day.high)))
+  pub rows_cover : passes (covering_rows q) (words_of_box b ++ (x ∷ y ∷ [])) ≡ covers q b
+  unfolding every covering_rows covers words_of_box
+  rows_cover =
+      rw (least b.east.high, least b.north.high, least b.day.high, least x, least y)
+      (rw (greatest 0 b.east.low refl, greatest 2 b.north.low refl, greatest 4 b.day.low refl, greatest 6 x refl, greatest 7 y refl)
+      (paired (leb q.east.low b.east.low) (leb q.north.low b.north.low) (leb q.day.low b.day.low) (leb b.east.high q.east.high) (leb b.north.high q.north.high) (leb b.day.high q.day.high)))
 
--- the same of the boxes of an entry, where the entry starts at word k
-module _ (t w : List ℕ) (p i k : ℕ) (r : Bool) (start : k ≡ entry_start p i) (h : Words t) (s : IsSieve w) where
-  pub place_touched : r ≡ words_pass t k w 0 → r ≡ touches (question_of w) (entry_in t p i).place
-  unfolding entry_at
-  place_touched e = e ∙ ap (λ l. words_pass t k l 0) s.same ∙ sieve_touches t k (question_of w) h ∙ ap (λ j. touches (question_of w) (box_at t j)) start
+-- the same of the boxes of an entry, for rows and words that are known by equations
+module _ (q : Box) (e : Entry) (touching covering : Rows) (h : IsSieve touching covering) (same : question_of touching ≡ q) (words row : List ℕ) (r : Bool)
+    (of_entry : words ≡ words_of_entry e) where
+  pub place_touched : row ≡ take 8 words → (r ≡ passes touching row) × Words row → r ≡ touches q e.place
+  unfolding words_of_entry words_of_box
+  place_touched p k =
+      let z : row ≡ words_of_box e.place ++ (e.gust ∷ e.weakest ∷ []) = p ∙ ap (take 8) of_entry in
+      k.0 ∙ ap (λ s. passes s row) (h.touches ∙ ap touching_rows same) ∙ ap (passes (touching_rows q)) z ∙ rows_touch q e.place e.gust e.weakest (subst Words z k.1)
 
-  pub place_covers : r ≡ words_pass t k w covered_rows → r ≡ covers (question_of w) (entry_in t p i).place
-  unfolding entry_at
-  place_covers e = e ∙ ap (λ l. words_pass t k l covered_rows) s.same ∙ sieve_covers t k (question_of w) h ∙ ap (λ j. covers (question_of w) (box_at t j)) start
+  pub place_covered : row ≡ take 8 words → (r ≡ passes covering row) × Words row → r ≡ covers q e.place
+  unfolding words_of_entry words_of_box
+  place_covered p k =
+      let z : row ≡ words_of_box e.place ++ (e.gust ∷ e.weakest ∷ []) = p ∙ ap (take 8) of_entry in
+      k.0 ∙ ap (λ s. passes s row) (h.covers ∙ ap covering_rows same) ∙ ap (passes (covering_rows q)) z ∙ rows_cover q e.place e.gust e.weakest (subst Words z k.1)
 
-  pub strongest_touched : r ≡ words_pass t (k + 9) w 0 → r ≡ touches (question_of w) (entry_in t p i).strongest
-  unfolding entry_at
-  strongest_touched e = e ∙ ap (λ l. words_pass t (k + 9) l 0) s.same ∙ sieve_touches t (k + 9) (question_of w) h ∙ ap (λ j. touches (question_of w) (box_at t (j + 9))) start
+  pub strongest_touched : row ≡ take 8 (drop 9 words) → (r ≡ passes touching row) × Words row → r ≡ touches q e.strongest
+  unfolding words_of_entry words_of_box
+  strongest_touched p k =
+      let z : row ≡ words_of_box e.strongest ++ (e.union.east.low ∷ e.union.east.high ∷ []) = p ∙ ap (λ w. take 8 (drop 9 w)) of_entry in
+      k.0 ∙ ap (λ s. passes s row) (h.touches ∙ ap touching_rows same) ∙ ap (passes (touching_rows q)) z ∙ rows_touch q e.strongest e.union.east.low e.union.east.high (subst Words z k.1)

@@ -1,10 +1,9 @@
 -- The split of rule 9.6, by computation.
 use Rattle.std.specs.Prelude.{List, [], ◌∷◌, map, ◌≡◌, refl, ℕ}
 use Rattle.ground.specs.Boxes.{join, size}
-use Rattle.ground.specs.declared.boxes.Box.{Box}
 use Rattle.pages.specs.Layout.{zero_box, zero_range}
 use Rattle.pages.specs.declared.Entry.{Entry}
-use Rattle.split.specs.Split.{TwoLists, halves, begin, seeds, places, pairs, pairs_with, most_wasteful, wastes_more, place_all, place, takes, next, first_most, growths_differ, growth, second_takes, given}
+use Rattle.split.specs.Split.{halves, begin, seeds, places, pairs, pairs_with, most_wasteful, wastes_more, place_all, place, takes, next, first_most, growths_differ, growth, second_takes}
 
 -- a record of gust 100 of one cell, north 0, day 0
 abbrev one_cell : ℕ → Entry

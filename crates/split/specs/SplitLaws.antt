@@ -1,9 +1,9 @@
 -- Laws of the split: both groups together are the entries, each has at least three, and each begins with its seed.
-use Rattle.std.specs.Prelude.{Bool, cond, ◌≡◌, leb, ltb, take, replicate}
+use Rattle.std.specs.Prelude.{Bool, cond, ◌≡◌, ltb, take, replicate}
 use Rattle.std.proofs.Math.Bool.{true, false}
 use mathlib.Core.List.{List, [], ◌∷◌, ◌++◌, map}
 use Rattle.std.proofs.Math.Path.{refl, sym, ap, subst}
-use Rattle.std.proofs.Common.{◌∙◌, not-suc-le-zero, le_of_suc-le-suc, length-drop, take_at, get_or-append-add}
+use Rattle.std.proofs.Common.{◌∙◌, not-suc-le-zero, le_of_suc-le-suc, length-drop, take_at}
 use Prim.Native.Nat.{ℕ, zero, suc, ◌+◌, ◌-◌, ◌≤◌, ◌<◌}
 use native.Mathlib.Omega.{arith}
 use borrow.Author.Tests.{leb-true, leb-false}
@@ -14,7 +14,6 @@ use Rattle.ground.specs.declared.boxes.Box.{Box}
 use Rattle.pages.specs.Layout.{page_entries, zero_entry}
 use Rattle.pages.specs.Summary.{in_use}
 use Rattle.pages.specs.declared.Entry.{Entry}
-use Rattle.pages.specs.declared.Page.{Page}
 use Rattle.split.specs.Split.{places, Pair, pairs_with, pairs, wastes_more, most_wasteful, seeds, Group, begun, takes, takes_all, Groups, without, begin, needs_all, first_most, next, second_takes, given, place, all_to_first, all_to_second, place_all, TwoLists, box_at, boxes_of, entries_at, halves, page_from}
 
 -- The sum of a weight over a list. Two lists with the same sums for every weight are permutations of each other.
@@ -96,7 +95,7 @@ unfolding places
 length_places i zero = refl
 length_places i (suc n) = ap suc (length_places (suc i) n)
 
-at_places : (i n k : ℕ) → k < n → get_or (places i n) k 0 ≡ i + k
+pub at_places : (i n k : ℕ) → k < n → get_or (places i n) k 0 ≡ i + k
 unfolding places
 at_places i zero k h = absurd (not-suc-le-zero h)
 at_places i (suc n) zero h = omega arith

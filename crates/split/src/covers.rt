@@ -1,34 +1,17 @@
-// The nine boxes, as words that are lent: a box is six of them.
-ghost use Rattle.std.specs.Prelude.{◌≡◌, ◌-◌, ◌^◌, ◌≤◌, ◌<◌};
+// The sizes of boxes, and of the box that covers two.
+ghost use Rattle.std.specs.Prelude.{◌≡◌, ◌-◌, ◌^◌, ◌≤◌, map};
 ghost use Rattle.ground.specs.Boxes.{length_on, join_on, join, size};
-ghost use Rattle.split.specs.Split.{box_at};
-ghost use Rattle.split.specs.Working.{most_size, boxes_in};
+ghost use Rattle.split.specs.Sizes.{most_size};
 
 use crate::filling::Nine;
 use ground::{Box, Range};
-use pages::Entry;
 
-// The box at a place; where there is none all is 0.
-pub fn box_at(words: &[u16; Nine::WORDS], i: usize) -> Box
-    ensures { result ≡ box_at (boxes_in words.now) i }
-{
-    if i < Nine::ENTRIES {
-        return pages::box_at(words, i * Entry::BOX_WORDS);
-    }
-    let none = Range { low: 0, high: 0 };
-    Box {
-        east: none,
-        north: none,
-        day: none,
-    }
-}
-
-// The difference, cut off at 0. Which of two ends is the greater no processor can guess, so there is no branch.
-fn less(a: u64, b: u64) -> u64
-    requires { (a < 2 ^ 16) × (b < 2 ^ 16) }
+// The difference, cut off at 0. Which of two ends is the greater no processor can guess, so there is no branch:
+// `saturating_sub`, `min` and `max` are compiled to some, and a split then takes 1.6 microseconds in place of 1.1.
+fn less(a: u16, b: u16) -> u64
     ensures { result ≡ a - b }
 {
-    let d = a + 65536 - b;
+    let d = u64::from(a) + 65536 - u64::from(b);
     (d % 65536) * (d / 65536)
 }
 
@@ -36,11 +19,9 @@ fn less(a: u64, b: u64) -> u64
 fn joined_length(a: Range, b: Range) -> u64
     ensures { (result ≡ length_on (join_on a b)) × (result ≤ 2 ^ 16) }
 {
-    let low = a.low as u64;
-    let high = b.high as u64;
-    let past = high + less(a.high as u64, high) + 1;
-    let start = low - less(low, b.low as u64);
-    if start <= past { past - start } else { 0 }
+    let past = u64::from(b.high) + less(a.high, b.high) + 1;
+    let start = u64::from(a.low) - less(a.low, b.low);
+    past.saturating_sub(start)
 }
 
 // The size of the box that covers both.
@@ -50,8 +31,9 @@ pub fn cover_size(a: Box, b: Box) -> u64
     joined_length(a.east, b.east) * joined_length(a.north, b.north) * joined_length(a.day, b.day)
 }
 
-pub fn size_of(b: Box) -> u64
-    ensures { (result ≡ size b) × (result ≤ most_size) }
+// Each place is in eight pairs, so it is weighed before them.
+pub fn sizes_of(boxes: &[Box; Nine::ENTRIES]) -> [u64; Nine::ENTRIES]
+    ensures { result ≡ map size boxes.now }
 {
-    b.size()
+    boxes.map(|b| b.size())
 }

@@ -4,8 +4,10 @@
 
 mod covers;
 mod filling;
+mod places;
 mod placing;
 mod seeds;
+mod side;
 
 pub use covers::cover_size;
 pub use filling::{Halves, split};

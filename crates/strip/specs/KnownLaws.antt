@@ -1,14 +1,16 @@
 -- What is known of the words of a strip that parts all days.
-use Rattle.std.specs.Prelude.{ℕ, zero, suc, ◌+◌, ◌-◌, ◌≤◌, ◌<◌, true, ◌≡◌, refl, length, get_or, ◌⊎◌}
+use Rattle.std.specs.Prelude.{ℕ, suc, ◌+◌, ◌-◌, ◌≤◌, ◌<◌, true, ◌&&◌, ◌≡◌, length, get_or, leb, eqb, ◌⊎◌}
 use mathlib.Core.List.{List, [], ◌∷◌, ◌++◌}
-use Rattle.std.proofs.Common.{sym, ◌∙◌, arith, length-take, get_or-take, take-take}
+use Rattle.std.proofs.Common.{◌∙◌, arith, length-take}
+use borrow.Author.Tests.{leb-true, eqb-true}
+use Rattle.std.proofs.Math.Seq.{drop-length}
 use Rattle.std.proofs.Math.Path.{ap}
-use Rattle.std.proofs.Math.ListN.{take, drop, drop_of_length-le}
+use Rattle.std.proofs.Math.ListN.{take, drop}
 use Rattle.strip.specs.Strips.{all_days, greatest_value, no_value, last_of, value_of, value_on, parts, parting}
 use Rattle.strip.specs.PartingLaws.{parted, begins, value_within, value_past, Values}
-use Rattle.strip.specs.Places.{first_from, value_before, place_parts, place_step, place_later, place_end, place_most, place_value, place_on, place_before}
-use Rattle.strip.specs.Walking.{first_day, Known}
-use Rattle.ground.specs.Tests.{below_or_not}
+use Rattle.strip.specs.Places.{first_day, value_before, place_parts, place_step, place_later, place_end, place_most, place_value, place_on, place_before}
+use Rattle.strip.specs.StripCalls.{Lent, most_segments, segments, is_strip}
+use Rattle.ground.specs.Tests.{both, below_or_not}
 use Rattle.std.proofs.Math.Logic.{◌⊎◌.inl, ◌⊎◌.inr}
 
 -- each day's value is one that a day may have
@@ -21,77 +23,56 @@ values_within first before (w ∷ s) e d = by_day (below_or_not (last_of w) d) (
     by_day (inl p) h k = omega (arith, value_past w s d p)
     by_day (inr p) h k = omega (arith, value_within w s d p)
 
-first_seen : (words : List ℕ) (n i : ℕ) → i ≤ n → first_from 0 (take n words) i ≡ first_day words i
-unfolding first_from
-first_seen words n zero h = refl
-first_seen words n (suc i) h = ap (λ w. suc (last_of w)) (get_or-take n words i 0 (omega arith))
+-- what the test of a lent strip tells
+pub record Known (s : Lent) : Type 0 where
+  pub good : parts 0 no_value (segments s) ≡ true
+  pub most : s.count ≤ most_segments
+  pub room : length s.words ≡ most_segments
 
-le_here : (n : ℕ) (s : List ℕ) → length s ≡ n → length s ≤ n
-le_here n s e = omega arith
+pub strip_known : (s : Lent) → is_strip s ≡ true → Known s
+unfolding is_strip
+strip_known s e =
+    let h = both (eqb (length s.words) most_segments && leb s.count most_segments) (parts 0 no_value (segments s)) e in
+    let k = both (eqb (length s.words) most_segments) (leb s.count most_segments) h.0 in
+    record { good = h.1; most = leb-true s.count most_segments k.1; room = eqb-true (length s.words) most_segments k.0 }
 
-module _ (words : List ℕ) (n : ℕ) (known : Known words n) where
-  pub used_length : length (take n words) ≡ n
-  used_length = omega (arith, length-take n words, known.most, known.room)
+pub used_length : (s : Lent) → Known s → length (segments s) ≡ s.count
+used_length s known = omega (arith, length-take s.count s.words, known.most, known.room)
 
-  pub first_step : (i : ℕ) → i < n → first_day words i ≤ last_of (get_or words i 0)
-  first_step i h =
-      let k = used_length in
-      let a = place_step 0 no_value (take n words) known.good i (omega arith) in
-      rw (first_seen words n i (omega arith), get_or-take n words i 0 h) at a
+module _ (words : List ℕ) (good : parts 0 no_value words ≡ true) where
+  pub first_step : (i : ℕ) → i < length words → first_day words i ≤ last_of (get_or words i 0)
+  first_step = place_step 0 no_value words good
 
-  pub first_later : (i k : ℕ) → i + k ≤ n → first_day words i + k ≤ first_day words (i + k)
-  first_later i k h =
-      let l = used_length in
-      let a = place_later 0 no_value (take n words) known.good i k (omega arith) in
-      rw (first_seen words n i (omega arith), first_seen words n (i + k) (omega arith)) at a
+  pub first_later : (i k : ℕ) → i + k ≤ length words → first_day words i + k ≤ first_day words (i + k)
+  first_later = place_later 0 no_value words good
 
-  pub first_most_lem : (i : ℕ) → i ≤ n → first_day words i ≤ all_days
-  first_most_lem i h =
-      let l = used_length in
-      rw (first_seen words n i h) at (place_most 0 no_value (take n words) known.good i (omega arith))
+  pub first_most_lem : (i : ℕ) → i ≤ length words → first_day words i ≤ all_days
+  first_most_lem = place_most 0 no_value words good
 
-  pub first_end : first_day words n ≡ all_days
-  first_end =
-      let l = used_length in
-      let a = rw l at (place_end 0 no_value (take n words) known.good) in
-      sym (first_seen words n n (omega arith)) ∙ a
+  pub first_end : first_day words (length words) ≡ all_days
+  first_end = place_end 0 no_value words good
 
-  pub value_there : (i d : ℕ) → i < n → first_day words i ≤ d → d ≤ last_of (get_or words i 0) → value_on (take n words) d ≡ value_of (get_or words i 0)
-  value_there i d h p q =
-      let l = used_length in
-      let g = get_or-take n words i 0 h in
-      place_on 0 no_value (take n words) i d known.good (omega arith) (rw (first_seen words n i (omega arith)) p) (rw g q) ∙ ap value_of g
+  pub value_there : (i d : ℕ) → i < length words → first_day words i ≤ d → d ≤ last_of (get_or words i 0) → value_on words d ≡ value_of (get_or words i 0)
+  value_there i d h p q = place_on 0 no_value words i d good h p q
 
-  pub value_most : Values (value_on (take n words))
-  value_most = values_within 0 no_value (take n words) known.good
+  pub value_most : Values (value_on words)
+  value_most = values_within 0 no_value words good
 
   -- the words from a place on are the parting of every meaning that agrees with the strip's there
-  pub words_after : (g : ℕ → ℕ) (i : ℕ) → i ≤ n → ((d : ℕ) → first_day words i ≤ d → g d ≡ value_on (take n words) d) → drop i (take n words) ≡ parting g (first_day words i) (all_days - first_day words i)
+  pub words_after : (g : ℕ → ℕ) (i : ℕ) → i ≤ length words → ((d : ℕ) → first_day words i ≤ d → g d ≡ value_on words d) → drop i words ≡ parting g (first_day words i) (all_days - first_day words i)
   words_after g i h a =
-      let l = used_length in
-      let s = take n words in
-      let z = first_seen words n i h in
-      let parts_there = place_parts 0 no_value s i known.good (omega arith) in
       let most = first_most_lem i h in
-      rw (sym z)
-      (parted g (first_from 0 s i) (value_before no_value s i) (all_days - first_from 0 s i) (drop i s) parts_there (omega (arith, z))
-      (λ d p. a d (rw (sym z) p) ∙ place_value 0 no_value s i d known.good (omega arith) p))
+      parted g (first_day words i) (value_before no_value words i) (all_days - first_day words i) (drop i words) (place_parts 0 no_value words i good h) (omega arith)
+      (λ d p. a d p ∙ place_value 0 no_value words i d good h p)
 
   -- and those before it begin the parting of every meaning that agrees up to it
-  pub words_before : (g : ℕ → ℕ) (i : ℕ) → i ≤ n → ((d : ℕ) → 0 < i → d ≤ first_day words i → g d ≡ value_on (take n words) d)
+  pub words_before : (g : ℕ → ℕ) (i : ℕ) → i ≤ length words → ((d : ℕ) → 0 < i → d ≤ first_day words i → g d ≡ value_on words d)
       → parting g 0 all_days ≡ take i words ++ parting g (first_day words i) (all_days - first_day words i)
-  words_before g i h a =
-      let l = used_length in
-      let z = first_seen words n i h in
-      let k = place_before g 0 no_value all_days (take n words) i known.good (omega arith) (omega arith) (λ d p q r. a d p (rw (sym z) r)) in
-      rw (z, take-take i n words h) at k
+  words_before g i h a = place_before g 0 no_value all_days words i good (omega arith) h (λ d p q r. a d p r)
 
   -- past the last segment there is nothing
-  pub value_past_all : value_on (take n words) (first_day words n) ≡ 0
+  pub value_past_all : value_on words (first_day words (length words)) ≡ 0
   unfolding value_on
   value_past_all =
-      let l = used_length in
-      let s = take n words in
-      let z = first_seen words n n (omega arith) in
-      let none : drop n s ≡ [] = drop_of_length-le s (le_here n s l) in
-      place_value 0 no_value s n (first_day words n) known.good (omega arith) (omega arith) ∙ ap (λ r. value_on r (first_day words n)) none
+      place_value 0 no_value words (length words) (first_day words (length words)) good (omega arith) (omega arith)
+      ∙ ap (λ r. value_on r (first_day words (length words))) (drop-length words)

@@ -16,6 +16,16 @@ unfoldable pub value_before : ℕ → List ℕ → ℕ → ℕ
 value_before before s zero = before
 value_before before s (suc i) = value_of (get_or s i 0)
 
+-- the first day of the segment at a place
+abbrev pub first_day : List ℕ → ℕ → ℕ
+first_day words i = first_from 0 words i
+
+-- the place of the segment that has a day
+pub record Found (words : List ℕ) (day i : ℕ) : Type 0 where
+  pub inside : i < length words
+  pub from : first_day words i ≤ day
+  pub to : day ≤ last_of (get_or words i 0)
+
 first_next : (first w : ℕ) (s : List ℕ) (i : ℕ) → first_from first (w ∷ s) (suc i) ≡ first_from (suc (last_of w)) s i
 unfolding first_from
 first_next first w s zero = refl

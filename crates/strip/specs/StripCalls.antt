@@ -1,10 +1,10 @@
 -- The calls on a strip, and when each says no. A strip is lent as 1,024 words, and the count of those in use.
-use Rattle.std.specs.Prelude.{ℕ, zero, suc, ◌+◌, ◌-◌, Bool, cond, not, ◌&&◌, List, ◌++◌, leb, eqb, length, take, drop}
+use Rattle.std.specs.Prelude.{ℕ, zero, suc, ◌+◌, ◌-◌, Bool, cond, not, ◌&&◌, List, ◌++◌, Option, Some, None, Result, Ok, Err, leb, eqb, length, take, drop}
 use Rattle.ground.specs.Boxes.{day_limit, gust_limit, legal_on}
 use Rattle.ground.specs.declared.boxes.Range.{Range}
-use Rattle.strip.specs.declared.Asked.{Asked}
-use Rattle.strip.specs.declared.Asked.TheVariants.{Refused, Nothing, Gust}
-use Rattle.strip.specs.declared.Ended.{Ended}
+use Rattle.ground.specs.declared.refusals.Refusal.{Refusal}
+use Rattle.ground.specs.declared.refusals.Refusal.TheVariants as no
+use Rattle.ground.specs.Refusals.{number_of}
 use Rattle.strip.specs.declared.Strip.{Strip}
 use Rattle.strip.specs.Strips.{all_days, no_value, value_on, parts, parting, raised, greatest_on}
 
@@ -67,16 +67,17 @@ recorded s days gust =
 unfoldable pub greatest_in : Lent → Range → ℕ
 greatest_in s days = greatest_on (meaning s) days.low (suc days.high - days.low)
 
-unfoldable pub answer_of : ℕ → Asked
-answer_of zero = Nothing
-answer_of (suc v) = Gust v
+unfoldable pub answer_of : ℕ → Option ℕ
+answer_of zero = None
+answer_of (suc v) = Some v
 
-unfoldable pub asked : Lent → Range → Asked
-asked s days = cond (not (legal_on day_limit days)) (Refused 2) (cond (not (is_strip s)) (Refused 4) (answer_of (greatest_in s days)))
+unfoldable pub asked : Lent → Range → Result (Option ℕ) Refusal
+asked s days = cond (not (legal_on day_limit days)) (Err no.Box) (cond (not (is_strip s)) (Err no.Damaged) (Ok (answer_of (greatest_in s days))))
 
 -- A strip as the code has it: the words it is lent, and the count.
 abbrev pub lent : List ℕ → Strip → Lent
 lent words strip = record { words = words; count = strip.count }
 
-abbrev pub left_of : List ℕ → Ended → Left
-left_of words r = record { refusal = r.refusal; strip = lent words r.strip }
+-- What a call left of them, and what it returned.
+abbrev pub left_of : {T : Type 0} → List ℕ → Strip → Result T Refusal → Left
+left_of words strip result = record { refusal = number_of result; strip = lent words strip }

@@ -13,8 +13,8 @@ use Rattle.ground.specs.declared.boxes.Range.{Range}
 use Rattle.strip.specs.Strips.{all_days, greatest_value, no_value, value_on, parts, raised}
 use Rattle.strip.specs.StripCalls.{Lent, most_segments, segments, meaning, is_strip, stand_for, holding as holding_new, Left, refused, cleared, with_record, fitted, recorded}
 use Rattle.strip.specs.PartingLaws.{parting_same, parted, Values, parting_means, parting_parts}
-use Rattle.strip.specs.KnownLaws.{used_length, value_most}
-use Rattle.strip.specs.CallLaws.{strip_known, all_nothing}
+use Rattle.strip.specs.KnownLaws.{strip_known, used_length, value_most}
+use Rattle.strip.specs.CallLaws.{all_nothing}
 
 -- A strip's segments are the parting of its meaning.
 pub strip_stands : (s : Lent) → is_strip s ≡ true → segments s ≡ stand_for (meaning s)
@@ -29,7 +29,7 @@ equal_meaning s t a b h =
 
 -- each day of a strip has a value that a day may have
 pub strip_values : (s : Lent) → is_strip s ≡ true → Values (meaning s)
-strip_values s e = value_most s.words s.count (strip_known s e)
+strip_values s e = value_most (segments s) (strip_known s e).good
 
 -- New segments for a meaning are a strip that means it.
 pub held_segments : (new : List ℕ) (s : Lent) → segments (holding_new new s) ≡ new
@@ -139,7 +139,7 @@ pub already : (s : Lent) (days : Range) (gust : ℕ) → legal_on day_limit days
 unfolding with_record holding_new
 already s days gust l g e h =
     let known = strip_known s e in
-    let size = used_length s.words s.count known in
+    let size = used_length s known in
     let same : with_record s days gust ≡ segments s = parting_same (raised days (gust + 1) (meaning s)) (meaning s) 0 all_days (λ d p q. by_test d (holds days d) refl) ∙ sym (strip_stands s e) in
     let k : Kept s days gust = record { lawful = l; small = g; was = e; few = omega (arith, ap length same, known.most) } in
     kept_so s days gust k

@@ -3,21 +3,22 @@
 // Every call answers for every strip, and what it promises settles each word.
 #![tactic(auto)]
 
-mod asking;
 mod checking;
-mod finding;
-mod pieces;
 mod raising;
+mod segments;
 mod walking;
 mod words;
 
 ghost use Rattle.std.specs.Prelude.{◌≡◌};
 ghost use Rattle.strip.specs.StripCalls.{left_of, lent, cleared, recorded, asked};
 
-use ground::{Box, Gust, Range};
+use crate::raising::{Raise, settle};
+use crate::segments::Segments;
+use crate::words::Segment;
+use ground::{Box, Gust, Range, Refusal};
 
 // How many words of a strip are in use.
-#[derive(Clone, Copy)]
+#[derive(Clone, Copy, Debug, PartialEq, Eq)]
 pub struct Strip {
     pub count: u32,
 }
@@ -27,65 +28,50 @@ impl Strip {
     // A word more for each end of a record's days, while what it makes is not joined.
     const ROOM: usize = 1026;
 
-    const DAYS: usize = Box::DAY_LIMIT as usize + 1;
+    const DAYS: u16 = Box::DAY_LIMIT + 1;
 
-    const GREATEST_VALUE: usize = Gust::LIMIT as usize + 1;
+    const GREATEST_VALUE: u16 = Gust::LIMIT + 1;
 }
 
-// 0 or the refusal's number, and the strip's count.
-#[derive(Clone, Copy)]
-pub struct Ended {
-    pub refusal: u32,
-    pub strip: Strip,
-}
-
-#[derive(Clone, Copy)]
-pub enum Asked {
-    Refused(u32),
-    // No day of the range has a gust.
-    Nothing,
-    Gust(u32),
-}
-
-// The strip that is all nothing. Refusal 4, if other than 1,024 words are lent.
-pub fn clear(words: &mut [u32], strip: Strip) -> Ended
-    ensures { left_of words.new result ≡ cleared (lent words.old strip) }
+// The strip that is all nothing, unless other than 1,024 words are lent.
+pub fn clear(words: &mut [u32], strip: &mut Strip) -> Result<(), Refusal>
+    ensures { left_of words.new strip.new result ≡ cleared (lent words.old strip.old) }
 {
     if words.len() != Strip::MOST {
-        return Ended { refusal: 4, strip };
+        return Err(Refusal::Damaged);
     }
-    words[0] = words::segment(Strip::DAYS - 1, 0);
-    Ended {
-        refusal: 0,
-        strip: Strip { count: 1 },
-    }
+    words[0] = u32::from(Segment {
+        last: Box::DAY_LIMIT,
+        value: 0,
+    });
+    strip.count = 1;
+    Ok(())
 }
 
-// Raises each day of a range to a gust. Refusals 2, 3, 4 and 10, in this order.
-pub fn record(words: &mut [u32], strip: Strip, days: Range, gust: Gust) -> Ended
-    ensures { left_of words.new result ≡ recorded (lent words.old strip) days gust.tenths }
+// Raises each day of a range to a gust. The days are judged first, then the gust, the strip, and its room.
+pub fn record(words: &mut [u32], strip: &mut Strip, days: Range, gust: Gust) -> Result<(), Refusal>
+    ensures { left_of words.new strip.new result ≡ recorded (lent words.old strip.old) days gust.tenths }
 {
     if !days.legal(Box::DAY_LIMIT) {
-        return Ended { refusal: 2, strip };
+        return Err(Refusal::Box);
     }
     if !gust.passes() {
-        return Ended { refusal: 3, strip };
+        return Err(Refusal::Gust);
     }
-    if !checking::is_strip(words, strip.count) {
-        return Ended { refusal: 4, strip };
-    }
-    raising::raise(words, strip, days, gust)
+    let raise = Raise::new(Segments::of(words, *strip)?, days, gust);
+    let start = raise.start;
+    let mut room = [0; Strip::ROOM];
+    let made = raise.make(&mut room);
+    settle(words, strip, start, made)
 }
 
-// The greatest gust of a range of days. Refusals 2 and 4, in this order.
-pub fn ask(words: &[u32], strip: Strip, days: Range) -> Asked
+// The greatest gust of a range of days, if any day of it has one. The days are judged first, then the strip.
+pub fn ask(words: &[u32], strip: Strip, days: Range) -> Result<Option<u32>, Refusal>
     ensures { result ≡ asked (lent words.now strip) days }
 {
     if !days.legal(Box::DAY_LIMIT) {
-        return Asked::Refused(2);
+        return Err(Refusal::Box);
     }
-    if !checking::is_strip(words, strip.count) {
-        return Asked::Refused(4);
-    }
-    asking::answer(asking::greatest_in(words, strip.count as usize, days))
+    let greatest = Segments::of(words, strip)?.greatest_in(days);
+    Ok(greatest.checked_sub(1).map(u32::from))
 }

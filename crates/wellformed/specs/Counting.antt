@@ -1,9 +1,9 @@
 -- Counting how often pages are reached and named. No page below the root is reached but through an entry that names it.
-use Rattle.std.specs.Prelude.{ℕ, zero, suc, ◌+◌, ◌*◌, ◌≤◌, ◌<◌, max, Bool, true, false, ◌&&◌, ◌||◌, cond, ◌≡◌, refl, leb, ltb, eqb, length, get_or}
-use mathlib.Core.List.{List, [], ◌∷◌, ◌++◌, map, flat_map}
-use Rattle.std.proofs.Common.{sym, ap, ap₂, subst, ◌∙◌, arith, zero-mul, add-mul}
+use Rattle.std.specs.Prelude.{ℕ, ◌+◌, ◌*◌, ◌<◌, Bool, true, false, cond, ◌≡◌, refl, eqb}
+use mathlib.Core.List.{List, [], ◌∷◌, ◌++◌, flat_map}
+use Rattle.std.proofs.Common.{sym, ap, arith, zero-mul}
 use Rattle.ground.specs.Sums.{total, total_same, total_zero, total_add, total_pick}
-use Rattle.wellformed.specs.WellFormed.{times, children, walk}
+use Rattle.wellformed.specs.WellFormed.{times}
 
 -- the sum of f over a list of pages
 unfoldable pub sum_of : (ℕ → ℕ) → List ℕ → ℕ

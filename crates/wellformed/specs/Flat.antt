@@ -1,28 +1,26 @@
 -- Why a flat pass decides "reached from the root exactly once": in a graded table a page that is not free is reached once exactly if it is the root, and nobody names it, or one entry of all pages names it.
 use Prim.Native.Nat.{ℕ, zero, suc, ◌+◌, ◌*◌, ◌≤◌, ◌<◌, max}
-use Rattle.std.specs.Prelude.{Bool, ◌&&◌, ◌||◌, ◌⊎◌, ◌≡◌, leb, ltb, get_or}
+use Rattle.std.specs.Prelude.{Bool, ◌||◌, ◌≡◌, leb, ltb}
 use Rattle.std.proofs.Math.Bool.{true, false, cond}
-use Rattle.std.proofs.lemmas.Bool.{false≢true}
 use mathlib.Core.List.{List, [], ◌∷◌, ◌++◌, map, flat_map}
-use Rattle.std.proofs.Math.Logic.{◌⊎◌.inl, ◌⊎◌.inr, ⊎_elim}
+use Rattle.std.proofs.Math.Logic.{⊎_elim}
 use Rattle.std.proofs.Math.Path.{refl, ap}
-use Rattle.std.proofs.Common.{sym, ap₂, subst, ◌∙◌, mul-zero, length-append}
+use Rattle.std.proofs.Common.{sym, subst, ◌∙◌, mul-zero, length-append}
 use Rattle.std.proofs.Math.Nat.{one-mul}
 use native.Mathlib.Omega.{arith}
-use borrow.Author.Tests.{leb-true, ltb-true, eqb-true, eq-eqb, ne_eqb, eqb-false}
+use borrow.Author.Tests.{leb-true, ltb-true, eqb-true, eq-eqb, ne_eqb}
 use Rattle.std.proofs.Math.Dec.{eqb}
 use Rattle.std.proofs.Math.ListN.{length}
-use Rattle.ground.specs.Sums.{total, total_same, total_zero, total_none}
-use Rattle.ground.specs.Tests.{both, three, either, joint, below_or_not, same_test, fails}
+use Rattle.ground.specs.Sums.{total, total_same, total_zero}
+use Rattle.ground.specs.Tests.{both, joint, below_or_not, same_test}
 use Rattle.pages.specs.Free.{is_free}
-use Rattle.pages.specs.Layout.{free_page}
-use Rattle.pages.specs.Summary.{is_leaf, in_use}
+use Rattle.pages.specs.Summary.{in_use}
 use Rattle.pages.specs.Words.{every}
 use Rattle.pages.specs.declared.Entry.{Entry}
 use Rattle.pages.specs.declared.Page.{Page}
 use Rattle.pages.specs.declared.Small.{Small}
-use Rattle.wellformed.specs.Counting.{sum_of, sum_append, sum_flat, times_sum, Each, sum_by_page}
-use Rattle.wellformed.specs.WellFormed.{every_below, times, page, child_of, children, walk, reached, leaf_entries, held_records, root_stands, is_lower, children_lower, reached_once}
+use Rattle.wellformed.specs.Counting.{sum_of, sum_flat, times_sum, Each, sum_by_page}
+use Rattle.wellformed.specs.WellFormed.{every_below, times, page, child_of, children, walk, reached, leaf_entries, held_records, is_lower, children_lower, reached_once}
 
 -- tests of all, as facts on each and back
 pub each : (f : ℕ → Bool) (xs : List ℕ) → every f xs ≡ true → Each (λ x. f x ≡ true) xs

@@ -1,14 +1,13 @@
 -- Laws of the marks: each page's mark is how often it was named, up to twice.
-use Rattle.std.specs.Prelude.{ℕ, zero, suc, ◌+◌, ◌≤◌, ◌<◌, min, Bool, true, false, ◌&&◌, ◌||◌, cond, List, [], ◌∷◌, map, ◌≡◌, refl, leb, eqb, length, get_or, set, drop, replicate}
-use Rattle.std.proofs.Common.{⊎_elim, ap, ap₂, subst, ◌∙◌, add-one, arith, eq-eqb, ne_eqb, eqb-true, le-leb, lit≤, length-set, drop_of_length-le, get_or-set_same, get_or-set_other}
+use Rattle.std.specs.Prelude.{ℕ, zero, suc, ◌+◌, ◌≤◌, ◌<◌, min, Bool, true, false, ◌&&◌, ◌||◌, cond, List, [], ◌∷◌, map, ◌≡◌, refl, eqb, length, get_or, set, drop, replicate}
+use Rattle.std.proofs.Common.{ap, ap₂, ◌∙◌, add-one, arith, eq-eqb, eqb-true, le-leb, lit≤, length-set, drop_of_length-le, get_or-set_same, get_or-set_other}
 use Rattle.std.proofs.Math.Path.{sym}
 use Rattle.std.proofs.lemmas.Bool.{eqb-false, lt-leb}
 use Rattle.std.proofs.lemmas.List.{length-replicate, get_or-replicate}
 use Rattle.std.proofs.Math.Seq.{drop-cons}
 use Rattle.ground.specs.Sums.{total}
-use Rattle.ground.specs.Tests.{below_or_not, same_test}
-use Rattle.pages.specs.Free.{is_free}
-use Rattle.pages.specs.Layout.{pages_in, pages_of, page_at, level_at, entry_in, zero_entry}
+use Rattle.ground.specs.Tests.{same_test}
+use Rattle.pages.specs.Layout.{pages_in, pages_of, page_at, level_at, zero_entry}
 use Rattle.pages.specs.LayoutLaws.{pages_length, pages_at, level_in}
 use Rattle.pages.specs.Summary.{in_use}
 use Rattle.pages.specs.declared.Entry.{Entry}
@@ -88,9 +87,6 @@ counted_all t m n e p h x q =
 abbrev pub due_mark : List ℕ → Small → ℕ → ℕ
 due_mark t s p = cond (eqb (level_at t p) 0 || eqb p s.root) 0 1
 
-pub due_is : (t : List ℕ) (s : Small) (p l : ℕ) (b : Bool) → l ≡ level_at t p → eqb l 0 || eqb p s.root ≡ b → cond b 0 1 ≡ due_mark t s p
-due_is t s p l b e h = ap (λ x. cond x 0 1) (sym h ∙ ap (λ n. eqb n 0 || eqb p s.root) e)
-
 up_to_two : (n k : ℕ) → k ≤ 1 → eqb (min 2 n) k ≡ eqb n k
 up_to_two n k p =
     same_test (eqb (min 2 n) k) (eqb n k)
@@ -101,11 +97,11 @@ due_most : (b : Bool) → cond b 0 1 ≤ 1
 due_most true = lit≤ tt
 due_most false = lit≤ tt
 
-pub due_named : (t : List ℕ) (s : Small) (p : ℕ) (m : List ℕ) (d : ℕ) → p < pages_in t → Counted (pages_of t) m → d ≡ due_mark t s p → eqb (get_or m p 0) d ≡ named_once (pages_of t) s p
-due_named t s p m d inside h e =
+pub due_named : (t : List ℕ) (s : Small) (p : ℕ) (m : List ℕ) → p < pages_in t → Counted (pages_of t) m → eqb (get_or m p 0) (due_mark t s p) ≡ named_once (pages_of t) s p
+due_named t s p m inside h =
     let l = pages_length t in
     let g : (page (pages_of t) p).level ≡ level_at t p = ap (λ y. y.level) (pages_at t p inside) ∙ level_in t p in
-    rw (e, g, h p (omega arith)) (up_to_two (named (pages_of t) p) (due_mark t s p) (due_most (eqb (level_at t p) 0 || eqb p s.root)))
+    rw (g, h p (omega arith)) (up_to_two (named (pages_of t) p) (due_mark t s p) (due_most (eqb (level_at t p) 0 || eqb p s.root)))
 
 -- a loop over all pages: one turn
 pub below_turn : (f : ℕ → Bool) (z r : Bool) (p : ℕ) → z ≡ every_below f p → r ≡ f p → (z && r) ≡ every_below f (p + 1)
@@ -129,10 +125,10 @@ module _ (es : List Entry) where
   marked_end m w i p h = sym (ap (λ l. marked m (map child_of l)) (drop_of_length-le es {i = i} p)) ∙ h
 
 -- a page below level 2 has no children
-pub marked_none : (t : List ℕ) (p l : ℕ) (m : List ℕ) → l ≡ level_at t p → l < 2 → m ≡ marked m (children (page_at t p))
+pub marked_none : (x : Page) (l : ℕ) (m : List ℕ) → l ≡ x.level → l < 2 → m ≡ marked m (children x)
 unfolding children marked
-marked_none t p l m e h = let g = level_in t p in rw (lt-leb 2 (page_at t p).level (omega arith))
+marked_none x l m e h = rw (lt-leb 2 x.level (omega arith))
 
-pub marked_index : (t : List ℕ) (p l : ℕ) (m m' : List ℕ) → l ≡ level_at t p → 2 ≤ l → m' ≡ marked m (map child_of (in_use (page_at t p))) → m' ≡ marked m (children (page_at t p))
+pub marked_index : (x : Page) (l : ℕ) (m m' : List ℕ) → l ≡ x.level → 2 ≤ l → m' ≡ marked m (map child_of (in_use x)) → m' ≡ marked m (children x)
 unfolding children
-marked_index t p l m m' e h k = let g = level_in t p in rw (le-leb 2 (page_at t p).level (omega arith)) k
+marked_index x l m m' e h k = rw (le-leb 2 x.level (omega arith)) k

@@ -1,6 +1,6 @@
 -- A well-formed book, condition by condition.
 use Rattle.std.specs.Prelude.{true, ◌&&◌, List, ◌≡◌, ℕ, length}
-use Rattle.ground.specs.Tests.{both, joint}
+use Rattle.ground.specs.Tests.{both}
 use Rattle.pages.specs.Layout.{table_fits, pages_of}
 use Rattle.pages.specs.declared.Small.{Small}
 use Rattle.wellformed.specs.WellFormed.{every_below, page, held_records, root_stands, children_lower, reached_once, page_stands, counts_stand, pages_stand, well_formed}

@@ -1,15 +1,18 @@
 -- Laws of the flat pass: its loops over entries, and its tests of a page as the definition says them.
-use Rattle.std.specs.Prelude.{ℕ, ◌+◌, ◌≤◌, ◌<◌, Bool, ◌&&◌, List, [], ◌∷◌, map, ◌≡◌, eqb, length, get_or, drop}
+use Rattle.std.specs.Prelude.{Option, Some, None, ℕ, ◌+◌, ◌≤◌, ◌<◌, Bool, ◌&&◌, List, [], ◌∷◌, map, ◌≡◌, eqb, ltb, length, get_or, slice_get, drop}
 use Rattle.std.proofs.Math.Bool.{true, false, and-true, and_assoc}
 use Rattle.std.proofs.Math.Path.{refl, sym, ap, ap₂}
 use Rattle.std.proofs.Common.{◌∙◌, add-one, arith, drop_of_length-le}
 use borrow.Author.Tests.{le-ltb, lt-ltb, le-leb, lt-leb, eq-eqb, ne_eqb}
 use Rattle.std.proofs.Math.Dec.{leb}
+use Rattle.std.proofs.Math.Logic.{⊎_elim}
+use Rattle.std.proofs.lemmas.Option.{none-some, slice_get-get_or, slice_get_within, get_or_from_slice_get}
+use Rattle.ground.specs.Tests.{below_or_not}
 use Rattle.std.proofs.Math.Seq.{drop-cons}
 use Rattle.ground.specs.Boxes.{legal, gust_passes}
 use Rattle.ground.specs.declared.boxes.Box.{Box}
-use Rattle.pages.specs.Layout.{after_gust, page_entries, count_at, pages_in, table_fits, pages_of, page_at, level_at, zero_entry, words_of_entry, words_of_entries, words_of_page}
-use Rattle.pages.specs.LayoutLaws.{pages_length, pages_at, level_in, count_in}
+use Rattle.pages.specs.Layout.{after_gust, page_entries, pages_in, pages_of, page_at, zero_entry, free_page, words_of_entry, words_of_entries, words_of_page}
+use Rattle.pages.specs.LayoutLaws.{pages_at}
 use Rattle.pages.specs.Summary.{in_use, summary_of}
 use Rattle.pages.specs.Words.{every, all_zero, same_words}
 use Rattle.pages.specs.declared.Entry.{Entry}
@@ -36,30 +39,46 @@ module _ (f : Entry → Bool) (es : List Entry) where
   every_end z w i p h = sym (and-true z) ∙ ap (λ b. z && b) (sym (ap (every f) (drop_of_length-le es {i = i} p))) ∙ h
 
 -- page c of the book where the table has it
-module _ (t : List ℕ) (fits : table_fits t ≡ true) where
-  pub page_is : (c : ℕ) → c < pages_in t → page (pages_of t) c ≡ page_at t c
-  page_is c p = pages_at t c p
+pub page_is : (t : List ℕ) (c : ℕ) → c < pages_in t → page (pages_of t) c ≡ page_at t c
+page_is t c p = pages_at t c p
 
-  pub exact_outside : (level c : ℕ) (e : Entry) → c ≡ e.child → pages_in t ≤ c → false ≡ lower_and_exact (pages_of t) level e
+-- a page that a number names: there is none past the end, and else it is the page of that number
+module _ (ps : List Page) (c : ℕ) where
+  pub past_end : slice_get ps c ≡ None → ltb c (length ps) ≡ false
+  past_end e =
+      le-ltb c (length ps)
+      (⊎_elim (λ (h : c < length ps). absurd (none-some (page ps c) (sym e ∙ slice_get-get_or ps c free_page h))) (λ (h : length ps ≤ c). h) (below_or_not c (length ps)))
+
+  pub before_end : (x : Page) → slice_get ps c ≡ Some x → ltb c (length ps) ≡ true
+  before_end x e = lt-ltb c (length ps) (slice_get_within ps c x e)
+
+  pub page_there : (x : Page) → slice_get ps c ≡ Some x → page ps c ≡ x
+  page_there x e = get_or_from_slice_get ps c x free_page e
+
+-- the page that an entry names
+module _ (ps : List Page) (level c : ℕ) (e : Entry) (names : c ≡ e.child) where
+  named_there : (o : Option Page) → slice_get ps c ≡ o → slice_get ps e.child ≡ o
+  named_there o h = ap (slice_get ps) (sym names) ∙ h
+
+  pub exact_outside : slice_get ps c ≡ None → false ≡ lower_and_exact ps level e
   unfolding is_lower
-  exact_outside level c e d p = rw (le-ltb e.child (length (pages_of t)) (omega (arith, pages_length t)))
+  exact_outside h = rw (past_end ps e.child (named_there None h))
 
-  lower_inside : (level c b : ℕ) → c < pages_in t → b ≡ level_at t c → eqb (b + 1) level ≡ is_lower (pages_of t) level c
+  lower_inside : (x : Page) (b : ℕ) → slice_get ps c ≡ Some x → b ≡ x.level → eqb (b + 1) level ≡ is_lower ps level e.child
   unfolding is_lower
-  lower_inside level c b p q = rw (lt-ltb c (length (pages_of t)) (omega (arith, pages_length t)), page_is c p, q, level_in t c)
+  lower_inside x b h q =
+      let g = named_there (Some x) h in
+      rw (before_end ps e.child x g, page_there ps e.child x g, q)
 
-  pub exact_inside : (level c b : ℕ) (e m : Entry) (r : Bool) → c ≡ e.child → c < pages_in t → b ≡ level_at t c → m ≡ summary_of c (page_at t c) → r ≡ same_words (words_of_entry e) (words_of_entry m) → (eqb (b + 1) level && r) ≡ lower_and_exact (pages_of t) level e
+  pub exact_inside : (x : Page) (b : ℕ) (m : Entry) (r : Bool) → slice_get ps c ≡ Some x → b ≡ x.level → m ≡ summary_of c x → r ≡ same_words (words_of_entry e) (words_of_entry m) → (eqb (b + 1) level && r) ≡ lower_and_exact ps level e
   unfolding is_exact
-  exact_inside level c b e m r d p q k s =
-      let child = k ∙ ap (summary_of c) (sym (page_is c p)) ∙ ap (λ n. summary_of n (page (pages_of t) n)) d in
-      ap₂ (λ x y. x && y) (lower_inside level c b p q ∙ ap (is_lower (pages_of t) level) d) (s ∙ ap (λ x. same_words (words_of_entry e) (words_of_entry x)) child)
+  exact_inside x b m r h q k s =
+      let child = k ∙ ap₂ summary_of names (sym (page_there ps e.child x (named_there (Some x) h))) in
+      ap₂ (λ y z. y && z) (lower_inside x b h q) (s ∙ ap (λ y. same_words (words_of_entry e) (words_of_entry y)) child)
 
 -- a leaf entry's box and gust; and all of it, with what was laid of those before
 abbrev pub record_stands : Entry → Bool
 record_stands e = legal e.place && gust_passes (record { tenths = e.gust })
-
-pub record_is : (e : Entry) (b : Box) (l : Bool) (v : ℕ) (g : Bool) → b ≡ e.place → l ≡ legal b → v ≡ e.gust → g ≡ gust_passes (record { tenths = v }) → (l && g) ≡ record_stands e
-record_is e b l v g p q r s = ap₂ (λ x y. x && y) (q ∙ ap legal p) (s ∙ ap (λ n. gust_passes (record { tenths = n })) r)
 
 pub leaf_turn : (e : Entry) (s z r x : Bool) → r ≡ record_stands e → x ≡ (z && all_zero (after_gust e)) → (s && r && x) ≡ (s && z && leaf_entry_stands e)
 unfolding leaf_entry_stands
@@ -89,43 +108,33 @@ every_both f g (e ∷ es) = crossed (f (child_of e)) (every f (map child_of es))
     crossed false b c d h = refl
 
 -- the tests of a page of a table, by its level
-module _ (t : List ℕ) (s : Small) (p : ℕ) (fits : table_fits t ≡ true) (inside : p < pages_in t) where
-  here : page (pages_of t) p ≡ page_at t p
-  here = pages_at t p inside
+module _ (t : List ℕ) (s : Small) (p : ℕ) (x : Page) (inside : p < pages_in t) (there : x ≡ page_at t p) where
+  here : page (pages_of t) p ≡ x
+  here = page_is t p inside ∙ sym there
 
-  level_is : (l : ℕ) → l ≡ level_at t p → (page_at t p).level ≡ l
-  level_is l q = level_in t p ∙ sym q
-
-  pub passes_free : (l : ℕ) (z : Bool) → l ≡ level_at t p → l ≡ 0 → z ≡ all_zero (words_of_page (page_at t p)) → z ≡ page_passes (pages_of t) s p
+  pub passes_free : (l : ℕ) (z : Bool) → l ≡ x.level → l ≡ 0 → z ≡ all_zero (words_of_page x) → z ≡ page_passes (pages_of t) s p
   unfolding children_lower children page_stands every
   passes_free l z q e d =
-      let v = level_is l q in
-      rw (here, lt-leb 2 (page_at t p).level (omega arith), eq-eqb (page_at t p).level 0 (omega arith)) d
+      rw (here, lt-leb 2 x.level (omega arith), eq-eqb x.level 0 (omega arith)) d
 
-  -- the test of the count, from the words
-  counted : (l m k : ℕ) → l ≡ level_at t p → m ≡ least_count s p l → k ≡ count_at t p → (leb m k && leb k page_entries) ≡ count_stands s p (page_at t p)
+  -- the test of the count
+  counted : (l m k : ℕ) → l ≡ x.level → m ≡ least_count s p l → k ≡ x.count → (leb m k && leb k page_entries) ≡ count_stands s p x
   unfolding count_stands
-  counted l m k q e d =
-      let v = level_is l q in
-      let n = count_in t p ∙ sym d in
-      let f = e ∙ ap (least_count s p) (sym v) in
-      ap₂ (λ x y. leb x y && leb y page_entries) f (sym n)
+  counted l m k q e d = ap₂ (λ a b. leb a b && leb b page_entries) (e ∙ ap (least_count s p) q) d
 
-  pub passes_leaf : (l m k : ℕ) (e z : Bool) → l ≡ level_at t p → l ≡ 1 → m ≡ least_count s p l → k ≡ count_at t p → e ≡ every leaf_entry_stands (in_use (page_at t p)) → z ≡ all_zero (words_of_entries (drop (page_at t p).count (page_at t p).entries)) → (leb m k && leb k page_entries && e && z) ≡ page_passes (pages_of t) s p
+  pub passes_leaf : (l m k : ℕ) (e z : Bool) → l ≡ x.level → l ≡ 1 → m ≡ least_count s p l → k ≡ x.count → e ≡ every leaf_entry_stands (in_use x) → z ≡ all_zero (words_of_entries (drop x.count x.entries)) → (leb m k && leb k page_entries && e && z) ≡ page_passes (pages_of t) s p
   unfolding children_lower children page_stands entries_stand every
   passes_leaf l m k e z q o r d f g =
-      let v = level_is l q in
-      rw (here, lt-leb 2 (page_at t p).level (omega arith), ne_eqb (page_at t p).level 0 (λ w. omega arith), eq-eqb (page_at t p).level 1 (omega arith))
-      (ap₂ (λ x y. x && y) (ap₂ (λ x y. x && y) (counted l m k q r d) f) g)
+      rw (here, lt-leb 2 x.level (omega arith), ne_eqb x.level 0 (λ w. omega arith), eq-eqb x.level 1 (omega arith))
+      (ap₂ (λ a b. a && b) (ap₂ (λ a b. a && b) (counted l m k q r d) f) g)
 
-  pub passes_index : (l m k : ℕ) (e z : Bool) → l ≡ level_at t p → 2 ≤ l → m ≡ least_count s p l → k ≡ count_at t p → e ≡ every (lower_and_exact (pages_of t) l) (in_use (page_at t p)) → z ≡ all_zero (words_of_entries (drop (page_at t p).count (page_at t p).entries)) → (leb m k && leb k page_entries && e && z) ≡ page_passes (pages_of t) s p
+  pub passes_index : (l m k : ℕ) (e z : Bool) → l ≡ x.level → 2 ≤ l → m ≡ least_count s p l → k ≡ x.count → e ≡ every (lower_and_exact (pages_of t) x.level) (in_use x) → z ≡ all_zero (words_of_entries (drop x.count x.entries)) → (leb m k && leb k page_entries && e && z) ≡ page_passes (pages_of t) s p
   unfolding children_lower children page_stands entries_stand
   passes_index l m k e z q o r d f g =
-      let v = level_is l q in
-      let u = f ∙ sym (every_both (is_lower (pages_of t) l) (is_exact (pages_of t)) (in_use (page_at t p))) ∙ ap (λ n. every (is_lower (pages_of t) n) (map child_of (in_use (page_at t p))) && every (is_exact (pages_of t)) (in_use (page_at t p))) (sym v) in
-      rw (here, le-leb 2 (page_at t p).level (omega arith), ne_eqb (page_at t p).level 0 (λ w. omega arith), ne_eqb (page_at t p).level 1 (λ w. omega arith))
-      (ap₂ (λ x y. x && y) (ap₂ (λ x y. x && y) (counted l m k q r d) u) g
-      ∙ moved (count_stands s p (page_at t p)) (every (is_lower (pages_of t) (page_at t p).level) (map child_of (in_use (page_at t p)))) (every (is_exact (pages_of t)) (in_use (page_at t p))) (all_zero (words_of_entries (drop (page_at t p).count (page_at t p).entries))))
+      let u = f ∙ sym (every_both (is_lower (pages_of t) x.level) (is_exact (pages_of t)) (in_use x)) in
+      rw (here, le-leb 2 x.level (omega arith), ne_eqb x.level 0 (λ w. omega arith), ne_eqb x.level 1 (λ w. omega arith))
+      (ap₂ (λ a b. a && b) (ap₂ (λ a b. a && b) (counted l m k q r d) u) g
+      ∙ moved (count_stands s p x) (every (is_lower (pages_of t) x.level) (map child_of (in_use x))) (every (is_exact (pages_of t)) (in_use x)) (all_zero (words_of_entries (drop x.count x.entries))))
     where
       moved : (a b c d : Bool) → (a && (b && c) && d) ≡ (b && (a && c && d))
       moved true true c d = refl

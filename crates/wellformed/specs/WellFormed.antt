@@ -1,5 +1,5 @@
 -- RULES.md, section 3: well-formed. One definition for each condition, in the order of the rules.
-use Rattle.std.specs.Prelude.{ℕ, zero, suc, ◌+◌, Bool, true, false, ◌&&◌, ◌||◌, cond, leb, ltb, eqb, length, get_or, drop}
+use Rattle.std.specs.Prelude.{Ok, Err, Result, ℕ, zero, suc, ◌+◌, Bool, true, ◌&&◌, ◌||◌, cond, leb, ltb, eqb, length, get_or, drop}
 use mathlib.Core.List.{List, [], ◌∷◌, map, flat_map}
 use Rattle.ground.specs.Boxes.{legal, gust_passes}
 use Rattle.pages.specs.Layout.{after_gust, page_entries, table_fits, pages_of, free_page, words_of_entry, words_of_entries, words_of_page}
@@ -9,8 +9,8 @@ use Rattle.pages.specs.Words.{every, all_zero, same_words}
 use Rattle.pages.specs.declared.Small.{Small}
 use Rattle.pages.specs.declared.Entry.{Entry}
 use Rattle.pages.specs.declared.Page.{Page}
-use Rattle.wellformed.specs.declared.verdict.Checked.{Checked}
-use Rattle.wellformed.specs.declared.verdict.Checked.TheVariants.{Held, Damaged}
+use Rattle.ground.specs.declared.refusals.Refusal.{Refusal}
+use Rattle.ground.specs.declared.refusals.Refusal.TheVariants as no
 
 -- Every number below n passes a test.
 unfoldable pub every_below : (ℕ → Bool) → ℕ → Bool
@@ -108,5 +108,5 @@ unfoldable pub well_formed : List ℕ → Small → Bool
 well_formed t s = table_fits t && pages_stand (pages_of t) s
 
 -- What the check answers: the number of held records, or that the book is damaged.
-unfoldable pub checked : List ℕ → Small → Checked
-checked t s = cond (well_formed t s) (Held (length (held_records (pages_of t) s))) Damaged
+unfoldable pub checked : List ℕ → Small → Result ℕ Refusal
+checked t s = cond (well_formed t s) (Ok (length (held_records (pages_of t) s))) (Err no.Damaged)

@@ -8,4 +8,4 @@ mod marks;
 mod page;
 mod verdict;
 
-pub use verdict::{Checked, check};
+pub use verdict::check;

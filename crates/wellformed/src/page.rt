@@ -1,11 +1,11 @@
 // One page, tested by itself and against its children.
-ghost use Rattle.std.specs.Prelude.{true, ◌≡◌, ◌<◌};
-ghost use Rattle.pages.specs.Layout.{table_fits, pages_in, pages_of};
+ghost use Rattle.std.specs.Prelude.{◌≡◌, ◌<◌};
+ghost use Rattle.pages.specs.Layout.{pages_in, pages_of};
 ghost use Rattle.wellformed.specs.WellFormed.{least_count};
 ghost use Rattle.wellformed.specs.PassLaws.{page_passes};
 
 use crate::entries::{index_entries_stand, leaf_entries_stand};
-use pages::{Page, Small};
+use pages::{Page, PageAt, Small};
 
 fn least_count(s: Small, p: usize, level: u16) -> u16
     ensures { result ≡ least_count s p level }
@@ -18,19 +18,19 @@ fn least_count(s: Small, p: usize, level: u16) -> u16
 }
 
 pub fn page_passes(t: &[u16], s: Small, p: usize) -> bool
-    requires { (table_fits t.now ≡ true) × (p < pages_in t.now) }
+    requires { p < pages_in t.now }
     ensures { result ≡ page_passes (pages_of t.now) s p }
 {
-    let level = pages::level(t, p);
+    let page = PageAt::of(t, p);
+    let level = page.level();
     if level == 0 {
-        return pages::page_is_zero(t, p);
+        return page.is_zero();
     }
-    let n = pages::in_use(t, p);
-    let count = pages::count(t, p);
+    let count = page.count();
     let fits = (least_count(s, p, level) <= count) & (count <= Page::MOST_COUNT);
-    let rest = pages::unused_is_zero(t, p, n);
+    let rest = page.unused_is_zero();
     if level == 1 {
-        return fits & leaf_entries_stand(t, p, n) & rest;
+        return fits & leaf_entries_stand(&page) & rest;
     }
-    fits & index_entries_stand(t, p, n, level) & rest
+    fits & index_entries_stand(t, &page) & rest
 }

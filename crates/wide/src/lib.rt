@@ -6,15 +6,16 @@ ghost use Rattle.wide.specs.Wide.{narrow, narrow_on, narrowed};
 
 use ground::{Box, Range};
 
-// Two ends as they were given, which may be more than a page's word holds.
-#[derive(Clone, Copy)]
+// Two ends as they were given, which may be more than a page's word holds. Beside `Range` it has no method but its narrowing:
+// one type for both widths would put a parameter on every box of the rules' definitions.
+#[derive(Clone, Copy, Debug, PartialEq, Eq)]
 pub struct Span {
     pub low: u32,
     pub high: u32,
 }
 
 // A box as it was given, its dates as days.
-#[derive(Clone, Copy)]
+#[derive(Clone, Copy, Debug, PartialEq, Eq)]
 pub struct WideBox {
     pub east: Span,
     pub north: Span,
@@ -49,5 +50,5 @@ impl WideBox {
 pub fn narrow(n: u32) -> u16
     ensures { result ≡ narrow n }
 {
-    if n <= 65535 { n as u16 } else { 65535 }
+    u16::try_from(n).unwrap_or(u16::MAX)
 }

@@ -1,6 +1,6 @@
 -- Rule 13.a: a strip that is all nothing, fed without refusal with the days and gusts of all records of the full list that touch one square,
 -- answers every range of days as the book does for that square.
-use Rattle.std.specs.Prelude.{ℕ, ◌+◌, ◌≤◌, max, Bool, true, false, cond, ◌&&◌, List, [], ◌∷◌, ◌≡◌, refl}
+use Rattle.std.specs.Prelude.{ℕ, ◌+◌, ◌≤◌, max, Bool, true, false, cond, ◌&&◌, List, [], ◌∷◌, Ok, ◌≡◌, refl}
 use Rattle.std.proofs.Common.{sym, ap, ◌∙◌, arith}
 use Rattle.ground.specs.Boxes.{east_limit, north_limit, day_limit, touches_on, touches, legal_on, legal}
 use Rattle.ground.specs.Facts.{legal_on_lem, legal_so}
@@ -53,7 +53,7 @@ pub record Fed (m : Moment) (east north : ℕ) (rs : List Report) (s : Lent) : T
 -- At every good moment: the strip is not refused, nor is the book, and they answer alike.
 pub record Alike (m : Moment) (east north : ℕ) (rs : List Report) (s : Lent) (q : Range) : Type 0 where
   pub book : (says (asked m.book.table m.book.small (square east north q))).refusal ≡ 0
-  pub strip : strip_asked (fed rs s) q ≡ answer_of (says (asked m.book.table m.book.small (square east north q))).best
+  pub strip : strip_asked (fed rs s) q ≡ Ok (answer_of (says (asked m.book.table m.book.small (square east north q))).best)
 
 pub good_strip : (m : Moment) → Good m → (east north : ℕ) → east ≤ east_limit → north ≤ north_limit → (rs : List Report) (s : Lent) → Fed m east north rs s
     → (q : Range) → legal_on day_limit q ≡ true → Alike m east north rs s q
@@ -65,7 +65,7 @@ good_strip m good east north p r rs s h q l =
     let a = good.answers (square east north q) legal_square in
     let best : greatest_in (fed rs s) q ≡ (says (asked m.book.table m.book.small (square east north q))).best =
     fed_answers q lawful rs s h.strip h.nothing h.taken ∙ most_same (gives_range q) rs (reports_of east north m.list) h.all ∙ sym (square_max east north q m.list) ∙ sym a.best in
-    record { book = a.never_refused; strip = rw (l, fed_strip rs s h.strip h.taken) (ap answer_of best) }
+    record { book = a.never_refused; strip = rw (l, fed_strip rs s h.strip h.taken) (ap (λ v. Ok (answer_of v)) best) }
 
 -- So after any run of calls, from any well-formed book.
 pub any_run_strip : (cs : List Call) (b : Book) → well_formed b.table b.small ≡ true → (east north : ℕ) → east ≤ east_limit → north ≤ north_limit

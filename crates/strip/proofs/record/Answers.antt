@@ -1,18 +1,26 @@
-use Rattle.strip.specs.CallLaws.{record_2, record_3, record_4, may_record, record_fits}
+use Rattle.std.proofs.Common.{rules, arith}
+use Rattle.std.proofs.lemmas.Grind.{common_steps}
+use Rattle.strip.specs.StripCalls.{recorded, with_record}
+use Rattle.strip.specs.KnownLaws.{strip_known}
 use Rattle.strip.proofs.record.Goals as goal
 
 pub returns-then-not-legal : goal.returns-then-not-legal
-returns-then-not-legal c = search record_2
+unfolding recorded
+returns-then-not-legal c = search rules
 
 pub returns-then-not-passes : goal.returns-then-not-passes
-returns-then-not-passes c = search record_3
+unfolding recorded
+returns-then-not-passes c = search rules
 
-pub returns-then-not-is_strip : goal.returns-then-not-is_strip
-returns-then-not-is_strip c = record_4 _ _ _ c.legal.ensures c.if-not-legal.false-raw _ _ c.passes.ensures c.if-not-passes.false-raw _ c.is_strip.ensures c.if-not-is_strip.true-raw
+pub returns-in_err-of : goal.returns-in_err-of
+unfolding recorded
+returns-in_err-of c = search rules
 
-pub raise-requires : goal.raise-requires
-raise-requires c = may_record _ _ _ c.legal.ensures c.if-not-legal.false-raw _ _ c.passes.ensures c.if-not-passes.false-raw _ c.is_strip.ensures c.if-not-is_strip.false-raw
+pub settle-requires : goal.settle-requires
+settle-requires c =
+    let known = strip_known _ c.in_ok-of.ensures.1 in
+    (known.room, omega arith, c.make-made.ensures.few)
 
 pub returns : goal.returns
-returns c = record_fits _ _ _ c.legal.ensures c.if-not-legal.false-raw _ _ c.passes.ensures c.if-not-passes.false-raw _ c.is_strip.ensures _
-    c.if-not-is_strip.false-raw c.raise.ensures
+unfolding recorded with_record
+returns c = grind (arith, common_steps)

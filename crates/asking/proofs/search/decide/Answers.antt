@@ -1,11 +1,21 @@
+use Rattle.std.proofs.Math.Path.{refl}
+use Rattle.std.proofs.Common.{ap₂, ◌||◌}
+use Rattle.ground.specs.Tests.{first_of, second_of}
 use Rattle.asking.specs.Turns.{step_pass, step_raise, step_open}
 use Rattle.asking.proofs.search.decide.Goals as goal
+use Rattle.asking.proofs.search.decide.Goals.{then-touches_strongest-via-then-touches_strongest, then-touches_strongest-via-else-touches_strongest+then-covers_place}
 
-pub returns-then-gust-best : goal.returns-then-gust-best
-returns-then-gust-best c = step_pass _ _ _ _ _ c.place_touches.ensures c.entry_gust-gust.ensures c.if-gust-best.true
+pub returns-then-from-best : goal.returns-then-from-best
+returns-then-from-best c = step_pass _ _ _ _ _ c.touches_place.ensures c.gust-gust.ensures (rw c.from.ensures at c.if-from-best.true)
 
-pub returns-then-strongest_touches-place_covered : goal.returns-then-strongest_touches-place_covered
-returns-then-strongest_touches-place_covered c = step_raise _ _ _ _ _ c.place_touches.ensures c.entry_gust-gust.ensures _ _ c.strongest_touches.ensures c.place_covered.ensures c.if-gust-best.false c.if-strongest_touches-place_covered.true
+pub returns-then-touches_strongest : goal.returns-then-touches_strongest
+returns-then-touches_strongest c =
+    elim c.then-touches_strongest.branch [
+      | then-touches_strongest-via-then-touches_strongest w ↦
+          step_raise _ _ _ _ _ c.touches_place.ensures c.gust-gust.ensures _ _ c.touches_strongest.ensures refl (rw c.from.ensures at c.if-from-best.false) (first_of _ _ w.if-touches_strongest.true)
+      | then-touches_strongest-via-else-touches_strongest+then-covers_place w ↦
+          step_raise _ _ _ _ _ c.touches_place.ensures c.gust-gust.ensures _ _ c.touches_strongest.ensures w.covers_place.ensures (rw c.from.ensures at c.if-from-best.false) (second_of _ _ w.if-covers_place.true)
+    ]
 
 pub returns : goal.returns
-returns c = step_open _ _ _ _ _ c.place_touches.ensures c.entry_gust-gust.ensures _ _ c.strongest_touches.ensures c.place_covered.ensures c.if-gust-best.false _ c.if-strongest_touches-place_covered.false c.entry_child.ensures
+returns c = step_open _ _ _ _ _ c.touches_place.ensures c.gust-gust.ensures _ _ c.touches_strongest.ensures c.covers_place.ensures (rw c.from.ensures at c.if-from-best.false) _ (ap₂ (λ a b. a || b) c.if-touches_strongest.false c.if-covers_place.false) c.child.ensures

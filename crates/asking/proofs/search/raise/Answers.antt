@@ -1,11 +1,11 @@
-use Rattle.asking.specs.Turns.{raise_up, raise_not}
-use Prim.Native.Nat.{◌+◌}
-use mathlib.Core.Path.{ap}
-use native.Mathlib.Omega.{arith}
+use Rattle.std.proofs.Common.{arith, sym, ◌∙◌}
+use Rattle.asking.specs.Asking.{raised}
 use Rattle.asking.proofs.search.raise.Goals as goal
 
-pub returns-then-place_touches-best : goal.returns-then-place_touches-best
-returns-then-place_touches-best c = raise_up _ _ _ _ _ c.place_touches.ensures (ap (λ n. n + 1) c.entry_gust.ensures) (omega (arith, c.entry_gust.type_inv)) c.if-place_touches-best.true
+pub returns-then-touches_place-clause-comes : goal.returns-then-touches_place-clause-comes
+unfolding raised
+returns-then-touches_place-clause-comes c = rw (sym c.touches_place.ensures ∙ c.if-touches_place.true) (omega (arith, c.from-gust.ensures, c.gust.ensures, c.max.ensures))
 
-pub returns-else-place_touches-best : goal.returns-else-place_touches-best
-returns-else-place_touches-best c = raise_not _ _ _ _ _ c.place_touches.ensures (ap (λ n. n + 1) c.entry_gust.ensures) c.requires.3 c.if-place_touches-best.false
+pub returns-else-touches_place-clause-comes : goal.returns-else-touches_place-clause-comes
+unfolding raised
+returns-else-touches_place-clause-comes c = rw (sym c.touches_place.ensures ∙ c.if-touches_place.false)

@@ -1,11 +1,9 @@
-use Rattle.counter.specs.Feeding.{finished_none, may_finish, finished_some}
+use Rattle.std.proofs.lemmas.Bool.{false≢true}
+use Rattle.counter.specs.Feeding.{finished_none, finished_some}
 use Rattle.counter.proofs.feeding.finish.Goals as goal
 
-pub returns-then-s-eq0 : goal.returns-then-s-eq0
-returns-then-s-eq0 c = finished_none c.args.t.now c.args.line.now c.args.out.now c.args.s c.requires c.if-s-eq0.true
+pub returns-then-not-is_empty : goal.returns-then-not-is_empty
+returns-then-not-is_empty c = finished_some _ _ _ c.requires _ _ _ (λ e. false≢true (c.if-not-is_empty.ensures.1 e)) c.end_kept.ensures
 
-pub end_kept-requires : goal.end_kept-requires
-end_kept-requires c = may_finish c.args.t.now c.args.line.now c.args.out.now c.args.s c.requires
-
-pub returns : goal.returns
-returns c = finished_some c.args.t.now c.args.line.now c.args.out.now c.args.s c.requires _ _ _ _ c.if-s-eq0.false c.end_kept.ensures
+pub returns-else-not-is_empty : goal.returns-else-not-is_empty
+returns-else-not-is_empty c = finished_none _ _ _ c.requires (c.is_empty.ensures.0 c.if-not-is_empty.false)

@@ -5,7 +5,7 @@ pub returns : goal.returns
 returns c =
     let given = c.args in
     words_told given.form given.pages given.small _ _ _ _ _ _ _ _ _ _ _
-    c.less-distance.ensures
+    c.saturating_sub-distance.ensures
     c.low_word.ensures
     c.high_word.ensures
     c.low_word-2.ensures

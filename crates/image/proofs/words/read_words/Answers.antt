@@ -1,12 +1,15 @@
-use Prim.Native.Nat.{◌-◌}
-use Rattle.image.proofs.Turns.{taken_none, taken_more, taken_all}
+use Rattle.std.proofs.Common.{refl, arith}
+use Rattle.image.specs.Bytes.{byte_words, number}
+use Rattle.image.proofs.Turns.{taken_more, taken_all}
 use Rattle.image.proofs.words.read_words.Goals as goal
 
 pub loop-i-init : goal.loop-i-init
-loop-i-init c = taken_none _ _ c.requires
+unfolding byte_words
+loop-i-init c = refl
 
 pub loop-i-preserved : goal.loop-i-preserved
-loop-i-preserved c = taken_more _ _ _ _ c.loop-i.invariant c.loop-i-test.true c.word_of.ensures
+unfolding number
+loop-i-preserved c = taken_more c.args.bytes.now _ _ _ (omega arith) (omega arith) (omega (arith, c.from_le_bytes.ensures)) c.loop-i.invariant
 
 pub returns : goal.returns
-returns c = taken_all _ _ _ c.loop-i.invariant c.loop-i-test.false
+returns c = taken_all c.args.bytes.now _ c.loop-i.i (omega arith) (omega arith) c.loop-i.invariant

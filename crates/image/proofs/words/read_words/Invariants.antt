@@ -1,10 +1,6 @@
-use Prim.Native.Nat.{◌-◌}
-use lib.ListN.{length}
-use Rattle.image.proofs.Turns.{Taken}
+use Rattle.std.proofs.Common.{◌≡◌, ◌*◌, take}
+use Rattle.image.specs.Bytes.{byte_words}
 use Rattle.image.proofs.words.read_words.Given as goal
 
 abbrev pub invariant-loop-i : goal.invariant-loop-i
-invariant-loop-i l = Taken l.bytes l.words l.i
-
-abbrev pub decreases-loop-i : goal.decreases-loop-i
-decreases-loop-i l = length l.bytes - l.i
+invariant-loop-i l = take l.i l.words ≡ byte_words (take (2 * l.i) l.bytes)

@@ -1,10 +1,6 @@
-use Prim.Native.Nat.{◌-◌}
-use lib.ListN.{length}
-use Rattle.image.proofs.Turns.{Written}
+use Rattle.std.proofs.Common.{◌≡◌, ◌*◌, take}
+use Rattle.image.specs.Bytes.{word_bytes}
 use Rattle.image.proofs.words.write_words.Given as goal
 
 abbrev pub invariant-loop-i : goal.invariant-loop-i
-invariant-loop-i l = Written l.words l.out l.i
-
-abbrev pub decreases-loop-i : goal.decreases-loop-i
-decreases-loop-i l = length l.words - l.i
+invariant-loop-i l = take (2 * l.i) l.out ≡ word_bytes (take l.i l.words)

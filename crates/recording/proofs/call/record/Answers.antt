@@ -1,12 +1,14 @@
-use mathlib.Core.Path.{ap, ◌∙◌}
-use Rattle.recording.specs.CallSteps.{called_of, call_refused, call_accepted, call_answered}
+use Rattle.std.proofs.lemmas.Result.{err_from_is_err_and}
+use Rattle.recording.specs.CallSteps.{call_refused, call_accepted, call_answered}
 use Rattle.recording.proofs.call.record.Goals as goal
 
-pub returns-then-no-ne0 : goal.returns-then-no-ne0
-returns-then-no-ne0 c = call_refused c.args.t.now c.args.s c.args.b c.args.v _ c.refusal-no.ensures c.if-no-ne0.true
+pub returns-in_err-accept : goal.returns-in_err-accept
+returns-in_err-accept c =
+    let p = err_from_is_err_and c.from_residual.result c.from_residual.ensures.1 in
+    rw (p.1, p.2) (call_refused c.args.t.now c.args.s.now c.args.b c.args.v _ c.in_err-accept.ensures)
 
 pub recorded-requires : goal.recorded-requires
-recorded-requires c = call_accepted c.args.t.now c.args.s c.args.b c.args.v c.refusal-no.result c.refusal-no.ensures c.if-no-ne0.false
+recorded-requires c = call_accepted c.args.t.now c.args.s.now c.args.b c.args.v c.in_ok-accept.ensures
 
 pub returns : goal.returns
-returns c = ap (λ x. called_of c.recorded.new.t x) c.answer.ensures ∙ call_answered c.args.t.now c.args.s c.args.b c.args.v c.refusal-no.result c.refusal-no.ensures c.recorded.new.t c.recorded.result c.if-no-ne0.false c.recorded.ensures
+returns c = call_answered c.args.t.now c.args.s.now c.args.b c.args.v c.recorded.new.t c.recorded.new.s c.recorded.result c.in_ok-accept.ensures c.recorded.ensures

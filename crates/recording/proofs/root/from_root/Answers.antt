@@ -1,44 +1,37 @@
 use borrow.Author.Rules.{rules}
 use Rattle.recording.specs.RootSteps.{may_begin, may_walk_empty, from_empty, may_walk_left, from_left}
-use Rattle.recording.specs.TableSteps.{still_fits}
 use Rattle.recording.proofs.root.from_root.Goals as goal
 
 pub strike_at-struck-requires : goal.strike_at-struck-requires
-strike_at-struck-requires c = search may_begin
-
-pub used_at-requires : goal.used_at-requires
-used_at-requires c = search still_fits
-
-pub store-requires : goal.store-requires
-store-requires c = search still_fits
+strike_at-struck-requires c = may_begin c.args.n c.args.v c.args.t.now c.of-news.result.sieve c.args.root c.args.s c.requires.0 c.requires.1 c.of-news.ensures.question
 
 pub walk_down-requires : goal.walk_down-requires
 walk_down-requires c =
-    let may = may_begin c.args.n c.args.v c.args.t.now c.sieve_of-q.result c.args.root c.args.s c.requires.0 c.requires.1 c.sieve_of-q.ensures in (
-      may_walk_empty c.args.n c.args.v c.args.root c.strike_at-struck.result c.used_at.result c.args.t.now c.strike_at-struck.new.t c.sieve_of-q.result c.args.s
-          c.requires.1 may c.strike_at-struck.ensures c.used_at.ensures c.if-used_at-eq0.true
-          c.store.new.t c.empty_leaf.result c.empty_leaf.ensures c.store.ensures,
+    let may = may_begin c.args.n c.args.v c.args.t.now c.of-news.result.sieve c.args.root c.args.s c.requires.0 c.requires.1 c.of-news.ensures.question in (
+      rw c.of-news.ensures.gust (may_walk_empty c.args.n c.args.v c.args.root c.strike_at-struck.result c.used_at.result c.args.t.now c.strike_at-struck.new.t c.of-news.result.sieve c.args.s
+          c.requires.1 may (rw c.of-news.ensures.gust at c.strike_at-struck.ensures) c.used_at.ensures c.if-used_at-eq0.true
+          c.store.new.t c.empty_leaf.result c.empty_leaf.ensures c.store.ensures),
       search rules,
     )
 
 pub returns-then-used_at-eq0 : goal.returns-then-used_at-eq0
 returns-then-used_at-eq0 c =
-    let may = may_begin c.args.n c.args.v c.args.t.now c.sieve_of-q.result c.args.root c.args.s c.requires.0 c.requires.1 c.sieve_of-q.ensures in
-    from_empty c.args.n c.args.v c.args.root c.strike_at-struck.result c.used_at.result c.args.t.now c.strike_at-struck.new.t c.sieve_of-q.result c.args.s
-    c.requires.1 may c.strike_at-struck.ensures c.used_at.ensures c.if-used_at-eq0.true
-    c.store.new.t c.empty_leaf.result c.empty_leaf.ensures c.store.ensures c.walk_down.new.t c.walk_down.result c.walk_down.ensures
+    let may = may_begin c.args.n c.args.v c.args.t.now c.of-news.result.sieve c.args.root c.args.s c.requires.0 c.requires.1 c.of-news.ensures.question in
+    from_empty c.args.n c.args.v c.args.root c.strike_at-struck.result c.used_at.result c.args.t.now c.strike_at-struck.new.t c.of-news.result.sieve c.args.s
+    c.requires.1 may (rw c.of-news.ensures.gust at c.strike_at-struck.ensures) c.used_at.ensures c.if-used_at-eq0.true
+    c.store.new.t c.empty_leaf.result c.empty_leaf.ensures c.store.ensures c.walk_down.new.t c.walk_down.result (rw c.of-news.ensures.gust at c.walk_down.ensures)
 
 pub walk_down-requires-2 : goal.walk_down-requires-2
 walk_down-requires-2 c =
-    let may = may_begin c.args.n c.args.v c.args.t.now c.sieve_of-q.result c.args.root c.args.s c.requires.0 c.requires.1 c.sieve_of-q.ensures in (
-      may_walk_left c.args.n c.args.v c.args.root c.strike_at-struck.result c.used_at.result c.args.t.now c.strike_at-struck.new.t c.sieve_of-q.result c.args.s
-          c.requires.1 may c.strike_at-struck.ensures c.used_at.ensures c.if-used_at-eq0.false,
+    let may = may_begin c.args.n c.args.v c.args.t.now c.of-news.result.sieve c.args.root c.args.s c.requires.0 c.requires.1 c.of-news.ensures.question in (
+      rw c.of-news.ensures.gust (may_walk_left c.args.n c.args.v c.args.root c.strike_at-struck.result c.used_at.result c.args.t.now c.strike_at-struck.new.t c.of-news.result.sieve c.args.s
+          c.requires.1 may (rw c.of-news.ensures.gust at c.strike_at-struck.ensures) c.used_at.ensures c.if-used_at-eq0.false),
       search rules,
     )
 
 pub returns : goal.returns
 returns c =
-    let may = may_begin c.args.n c.args.v c.args.t.now c.sieve_of-q.result c.args.root c.args.s c.requires.0 c.requires.1 c.sieve_of-q.ensures in
-    from_left c.args.n c.args.v c.args.root c.strike_at-struck.result c.used_at.result c.args.t.now c.strike_at-struck.new.t c.sieve_of-q.result c.args.s
-    c.requires.1 may c.strike_at-struck.ensures c.used_at.ensures c.if-used_at-eq0.false
-    c.walk_down-2.new.t c.walk_down-2.result c.walk_down-2.ensures
+    let may = may_begin c.args.n c.args.v c.args.t.now c.of-news.result.sieve c.args.root c.args.s c.requires.0 c.requires.1 c.of-news.ensures.question in
+    from_left c.args.n c.args.v c.args.root c.strike_at-struck.result c.used_at.result c.args.t.now c.strike_at-struck.new.t c.of-news.result.sieve c.args.s
+    c.requires.1 may (rw c.of-news.ensures.gust at c.strike_at-struck.ensures) c.used_at.ensures c.if-used_at-eq0.false
+    c.walk_down-2.new.t c.walk_down-2.result (rw c.of-news.ensures.gust at c.walk_down-2.ensures)

@@ -1,4 +1,4 @@
-use Rattle.recording.specs.LyingSteps.{append_in, full_page, append_full}
+use Rattle.recording.specs.LyingSteps.{append_in, full_page}
 use Rattle.recording.proofs.settle.append_at.Goals as goal
 
 pub returns-then-n-lt-ENTRIES : goal.returns-then-n-lt-ENTRIES
@@ -6,6 +6,3 @@ returns-then-n-lt-ENTRIES c = append_in c.args.t.now c.args.p c.requires.1 _ c.u
 
 pub split_page-requires : goal.split_page-requires
 split_page-requires c = (c.requires.0, (full_page _ _ c.requires.1 c.used_at-n.result _ c.used_at-n.ensures c.if-n-lt-ENTRIES.false c.load.ensures).0, (full_page _ _ c.requires.1 c.used_at-n.result _ c.used_at-n.ensures c.if-n-lt-ENTRIES.false c.load.ensures).1, c.requires.2)
-
-pub returns : goal.returns
-returns c = append_full c.args.t.now c.args.p c.requires.1 _ c.load.result c.args.e _ c.load.ensures c.split_page.ensures

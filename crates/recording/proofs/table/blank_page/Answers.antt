@@ -1,7 +1,6 @@
-use lib.ListN.{replicate}
-use Rattle.pages.specs.declared.Entry.{Entry}
-use mathlib.Core.Path.{ap}
+use Rattle.std.proofs.Common.{rules}
+use Rattle.recording.specs.TableSteps.{default_page}
 use Rattle.recording.proofs.table.blank_page.Goals as goal
 
 pub returns : goal.returns
-returns c = ap (λ (e : Entry). record { level = 0; count = 0; entries = replicate 8 e }) c.zero_entry-none.ensures
+returns c = default_page c.default.result _ (λ e h. search rules) c.default.ensures.0 c.default.ensures.1.0 c.default.ensures.1.1

@@ -1,14 +1,12 @@
-use native.Mathlib.Omega.{arith}
-use mathlib.Core.Path.{ap, ◌∙◌}
-use Rattle.recording.specs.TableSteps.{child_past, entry_lying}
-use Rattle.pages.specs.Facts.{in_table}
+use Rattle.std.proofs.Common.{arith, sym, ◌∙◌}
+use Rattle.recording.specs.TableSteps.{child_there, child_past, child_out}
 use Rattle.recording.proofs.table.child_lying.Goals as goal
 
-pub returns-then-used_at-i : goal.returns-then-used_at-i
-returns-then-used_at-i c = child_past _ _ _ c.used_at.result c.used_at.ensures c.if-used_at-i.true
+pub returns-in_default : goal.returns-in_default
+returns-in_default c = child_out c.args.t.now c.args.p c.args.i (sym c.get.ensures ∙ c.in_default.is)
 
-pub entry_child-requires : goal.entry_child-requires
-entry_child-requires c = (in_table _ _ c.requires (c.used_at.ensures.inside (omega arith)), omega (arith, c.used_at.ensures.most))
+pub returns-then-in_use-i : goal.returns-then-in_use-i
+returns-then-in_use-i c = child_past c.args.t.now c.args.p c.args.i c.in-Some.page (sym c.get.ensures ∙ c.in-Some.is) (omega arith)
 
 pub returns : goal.returns
-returns c = c.entry_child.ensures ∙ ap (λ y. y.child) (entry_lying _ _ _ c.used_at.result c.used_at.ensures c.if-used_at-i.false)
+returns c = child_there c.args.t.now c.args.p c.args.i _ c.in-Some.page c.entry.result (sym c.get.ensures ∙ c.in-Some.is) (omega arith) c.entry.ensures c.child.ensures

@@ -1,15 +1,14 @@
-use mathlib.Core.Path.{refl, ap}
-use Rattle.pages.specs.Facts.{in_table}
-use Rattle.pages.specs.Layout.{free_page}
+use Rattle.std.proofs.Common.{slice_get, ap, sym, ◌∙◌}
+use Rattle.pages.specs.Layout.{pages_of}
 use Rattle.pages.specs.declared.Page.{Page}
-use Rattle.recording.specs.TableSteps.{level_there, load_out}
+use Rattle.recording.specs.TableSteps.{page_lying, page_lacking}
 use Rattle.recording.proofs.table.level_of.Goals as goal
 
-pub level-requires : goal.level-requires
-level-requires c = in_table _ _ c.requires c.if-at-t.true
-
-pub returns-then-at-t : goal.returns-then-at-t
-returns-then-at-t c = level_there _ _ _ c.if-at-t.true c.level.ensures
+pub returns-in_default : goal.returns-in_default
+returns-in_default c =
+    ap (λ (x : Page). x.level) (page_lacking c.args.t.now c.args.p (ap (slice_get (pages_of c.args.t.now)) (sym c.from.ensures) ∙ sym c.get.ensures ∙ c.in_default.is))
 
 pub returns : goal.returns
-returns c = ap (λ (x : Page). x.level) (load_out _ _ free_page c.if-at-t.false refl)
+returns c =
+    c.level.ensures
+    ∙ ap (λ (x : Page). x.level) (page_lying c.args.t.now c.args.p c.in-Some.page (ap (slice_get (pages_of c.args.t.now)) (sym c.from.ensures) ∙ sym c.get.ensures ∙ c.in-Some.is))

@@ -1,12 +1,9 @@
-use Rattle.pages.specs.Facts.{in_table}
-use Rattle.recording.specs.TableSteps.{load_in, load_out}
+use Rattle.std.proofs.Common.{sym, ◌∙◌}
+use Rattle.recording.specs.TableSteps.{page_lying, page_lacking}
 use Rattle.recording.proofs.table.load.Goals as goal
 
-pub read_page-requires : goal.read_page-requires
-read_page-requires c = in_table _ _ c.requires c.if-p-t.true
-
-pub returns-then-p-t : goal.returns-then-p-t
-returns-then-p-t c = load_in _ _ _ c.if-p-t.true c.read_page.ensures
+pub returns-in_default : goal.returns-in_default
+returns-in_default c = c.blank_page.ensures ∙ page_lacking c.args.t.now c.args.p (sym c.get.ensures ∙ c.in_default.is)
 
 pub returns : goal.returns
-returns c = load_out _ _ _ c.if-p-t.false c.blank_page.ensures
+returns c = c.read.ensures ∙ page_lying c.args.t.now c.args.p c.in-Some.page (sym c.get.ensures ∙ c.in-Some.is)

@@ -1,14 +1,15 @@
-use mathlib.Core.Path.{ap}
-use Rattle.pages.specs.declared.Entry.{Entry}
-use Rattle.pages.specs.Facts.{in_table}
-use Rattle.recording.specs.TableSteps.{summary_in, summary_out}
+use Rattle.std.proofs.Common.{rules, None, ◌≡◌, slice_get, ap, sym, ◌∙◌}
+use Rattle.pages.specs.Layout.{pages_of}
+use Rattle.pages.specs.Summary.{summary_of}
+use Rattle.recording.specs.TableSteps.{page_lying, summary_out}
 use Rattle.recording.proofs.table.summary.Goals as goal
 
-pub summary_at-requires : goal.summary_at-requires
-summary_at-requires c = in_table _ _ c.requires c.if-at-t.true
-
-pub returns-then-at-t : goal.returns-then-at-t
-returns-then-at-t c = summary_in _ _ _ c.if-at-t.true c.summary_at.ensures
+pub returns-in_default : goal.returns-in_default
+returns-in_default c =
+    let past : slice_get (pages_of c.args.t.now) c.args.p ≡ None = ap (slice_get (pages_of c.args.t.now)) (sym c.from.ensures) ∙ sym c.get.ensures ∙ c.in_default.is in
+    search (rules, summary_out)
 
 pub returns : goal.returns
-returns c = summary_out _ _ _ c.if-at-t.false (ap (λ (e : Entry). record { place = e.place; gust = e.gust; weakest = e.weakest; child = c.args.p; strongest = e.strongest; union = e.union }) c.zero_entry-none.ensures)
+returns c =
+    c.summary.ensures
+    ∙ ap (summary_of c.args.p) (page_lying c.args.t.now c.args.p c.in-Some.page (ap (slice_get (pages_of c.args.t.now)) (sym c.from.ensures) ∙ sym c.get.ensures ∙ c.in-Some.is))

@@ -1,12 +1,15 @@
 use borrow.Author.Rules.{rules}
-use Rattle.recording.specs.WalkSteps.{lies, tidy_there, leaf_ends}
+use Rattle.recording.specs.WalkSteps.{inside, tidy_there, leaf_ends}
 use Rattle.recording.proofs.walk.at_leaf.Goals as goal
 
-pub scan_leaf-found-requires : goal.scan_leaf-found-requires
-scan_leaf-found-requires c = (search lies, search rules, search rules)
+pub of-requires : goal.of-requires
+of-requires c = inside _ _ _ _ _ _ c.requires
 
-pub append_left-became-requires : goal.append_left-became-requires
-append_left-became-requires c = (search rules, search tidy_there)
+pub scan_leaf-found-requires : goal.scan_leaf-found-requires
+scan_leaf-found-requires c = c.requires.within
+
+pub append_left-requires : goal.append_left-requires
+append_left-requires c = (search rules, search tidy_there)
 
 pub returns : goal.returns
-returns c = search leaf_ends
+returns c = leaf_ends _ _ _ _ _ _ c.args.s c.scan_leaf-found.result c.of.result c.append_left.result c.requires c.of.ensures c.scan_leaf-found.ensures c.append_left.ensures

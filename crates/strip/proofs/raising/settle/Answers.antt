@@ -3,13 +3,7 @@ use Rattle.strip.specs.CallLaws.{settle_refused, settle_kept}
 use Rattle.strip.proofs.raising.settle.Goals as goal
 
 pub returns-then-size-gt-MOST : goal.returns-then-size-gt-MOST
-returns-then-size-gt-MOST c =
-    let args = c.args in
-    let h = c.requires in
-    settle_refused args.words.now args.made.now args.start args.place args.strip h.0 h.1 h.4 (omega arith)
+returns-then-size-gt-MOST c = search settle_refused
 
 pub returns : goal.returns
-returns c =
-    let args = c.args in
-    let h = c.requires in
-    settle_kept args.words.now args.made.now args.start args.place args.strip h.0 h.1 h.4 _ (omega arith) c.copy.ensures
+returns c = settle_kept _ _ _ c.args.strip.now c.requires.0 c.requires.1 _ _ (omega arith) c.copy_from_slice.ensures.after (omega arith)

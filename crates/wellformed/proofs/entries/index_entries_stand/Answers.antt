@@ -1,18 +1,18 @@
-use mathlib.Core.Path.{refl, sym, ap, ◌∙◌}
-use borrow.Author.Rules.{rules}
-use native.Mathlib.Omega.{arith}
-use Prim.Native.Nat.{◌-◌}
-use Rattle.pages.specs.GatherLaws.{in_use_at}
-use Rattle.pages.specs.Layout.{pages_of, page_at}
-use Rattle.pages.specs.Summary.{in_use}
-use Rattle.wellformed.specs.PassLaws.{lower_and_exact, every_turn, every_end}
+use Rattle.std.proofs.Common.{rules, tests, ℕ, ◌∙◌, ◌&&◌, true, get_or, arith, refl}
+use Rattle.std.specs.List.{range_with_len}
+use Rattle.std.proofs.lemmas.Iterator.{YieldsList-from_range}
+use Rattle.std.proofs.lemmas.Iterator.Consumers.{fold_from_yields_List}
+use Rattle.pages.specs.Layout.{pages_of, zero_entry}
+use Rattle.pages.specs.WordLaws.{every_carried}
+use Rattle.wellformed.specs.PassLaws.{lower_and_exact}
+use Rattle.wellformed.proofs.Tested.{every_used}
 use Rattle.wellformed.proofs.entries.index_entries_stand.Goals as goal
 
-pub loop-i-init : goal.loop-i-init
-loop-i-init c = (search rules, refl)
-
-pub loop-i-preserved : goal.loop-i-preserved
-loop-i-preserved c = (search rules, every_turn (lower_and_exact (pages_of c.args.t.now) c.args.level) (in_use (page_at c.args.t.now c.args.p)) c.loop-i.stands _ _ c.loop-i.i (omega arith) (c.index_entry_stands-stands.ensures ∙ ap (lower_and_exact (pages_of c.args.t.now) c.args.level) (sym (in_use_at c.args.t.now c.args.p c.loop-i.i (omega arith)))) c.loop-i.invariant.1)
-
 pub returns : goal.returns
-returns c = every_end (lower_and_exact (pages_of c.args.t.now) c.args.level) (in_use (page_at c.args.t.now c.args.p)) c.loop-i.stands _ c.loop-i.i (omega arith) c.loop-i.invariant.1
+returns c =
+    let x = c.args.page.now in
+    let f = lower_and_exact (pages_of c.args.t.now) x.level in
+    let n = c.in_use.result in
+    fold_from_yields_List _ (λ b i. b && f (get_or x.entries i zero_entry)) true _ c.fold.ensures.ran (YieldsList-from_range 0 n n refl (omega arith)) (λ a i b q. search (rules, tests))
+    ∙ every_carried (λ (i : ℕ). f (get_or x.entries i zero_entry)) true (range_with_len 0 n)
+    ∙ every_used f x n c.in_use.ensures.1

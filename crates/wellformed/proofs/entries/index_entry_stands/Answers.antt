@@ -1,22 +1,12 @@
-use native.Mathlib.Omega.{arith}
-use Rattle.pages.specs.Facts.{in_table}
+use Rattle.std.proofs.Common.{◌∙◌, sym, ap}
+use Rattle.pages.specs.Summary.{summary_of}
 use Rattle.wellformed.specs.PassLaws.{exact_outside, exact_inside}
 use Rattle.wellformed.proofs.entries.index_entry_stands.Goals as goal
 
-pub entry_child-child-requires : goal.entry_child-child-requires
-entry_child-child-requires c = (in_table _ _ c.requires.0 c.requires.1, c.requires.2)
-
-pub returns-then-t-child : goal.returns-then-t-child
-returns-then-t-child c = exact_outside _ c.requires.0 _ _ _ c.entry_child-child.ensures (omega arith)
-
-pub level-requires : goal.level-requires
-level-requires c = in_table _ _ c.requires.0 (omega arith)
-
-pub summary_at-requires : goal.summary_at-requires
-summary_at-requires c = in_table _ _ c.requires.0 (omega arith)
-
-pub entry_is-requires : goal.entry_is-requires
-entry_is-requires c = (in_table _ _ c.requires.0 c.requires.1, c.requires.2)
+pub returns-in_default : goal.returns-in_default
+returns-in_default c = exact_outside _ c.args.level _ c.args.entry.now (c.from.ensures ∙ c.child-number.ensures) (sym c.get.ensures ∙ c.in_default.is)
 
 pub returns : goal.returns
-returns c = exact_inside _ c.requires.0 _ _ _ _ _ _ c.entry_child-child.ensures (omega arith) c.level.ensures c.summary_at.ensures c.entry_is.ensures
+returns c =
+    rw c.from-2.ensures
+    (exact_inside _ c.args.level _ c.args.entry.now (c.from.ensures ∙ c.child-number.ensures) c.in-Some.child _ _ _ (sym c.get.ensures ∙ c.in-Some.is) (c.from-below.ensures ∙ c.level.ensures) (c.summary.ensures ∙ ap (λ n. summary_of n c.in-Some.child) (sym c.from.ensures)) c.is.ensures)

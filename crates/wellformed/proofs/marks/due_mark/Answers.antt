@@ -1,9 +1,10 @@
-use mathlib.Core.Bool.{true, false}
-use Rattle.wellformed.specs.MarkLaws.{due_is}
+use Rattle.std.proofs.Common.{◌≡◌, rules, tests, ap, ◌∙◌}
+use Rattle.pages.specs.Layout.{level_at}
+use Rattle.pages.specs.LayoutLaws.{level_in}
+use Rattle.pages.specs.declared.Page.{Page}
 use Rattle.wellformed.proofs.marks.due_mark.Goals as goal
 
-pub returns-then-level-p : goal.returns-then-level-p
-returns-then-level-p c = due_is c.args.t.now c.args.s c.args.p _ true c.level.ensures c.if-level-p.true
-
-pub returns-else-level-p : goal.returns-else-level-p
-returns-else-level-p c = due_is c.args.t.now c.args.s c.args.p _ false c.level.ensures c.if-level-p.false
+pub returns : goal.returns
+returns c =
+    let l : c.level.result ≡ level_at c.args.t.now c.args.p = c.level.ensures ∙ ap (λ (x : Page). x.level) c.of.ensures ∙ level_in c.args.t.now c.args.p in
+    search (rules, tests)

@@ -1,6 +1,5 @@
-use native.Mathlib.Omega.{arith}
-use mathlib.Core.Path.{ap}
-use lib.ListN.{set}
+use Rattle.std.proofs.Common.{arith, ap}
+use Rattle.std.proofs.Math.ListN.{set}
 use Rattle.wellformed.specs.MarkLaws.{mark, mark_outside}
 use Rattle.wellformed.proofs.marks.mark_page.Goals as goal
 

@@ -1,7 +1,7 @@
-use mathlib.Core.Path.{refl}
+use Rattle.std.proofs.Common.{rules}
 use Rattle.wellformed.specs.WellFormed.{counts_stand}
 use Rattle.wellformed.proofs.verdict.counts_stand.Goals as goal
 
 pub returns : goal.returns
 unfolding counts_stand
-returns c = refl
+returns c = search rules

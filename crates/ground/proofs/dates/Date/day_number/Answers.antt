@@ -7,10 +7,10 @@ use Rattle.ground.proofs.dates.Date.day_number.Goals as goal
 
 known : (c : After-days_before_month) → Counted c.args.self c.days_before_year.result c.days_before_month.result
 known c =
-    counted _ _ _ (ap not (sym c.exists.ensures) ∙ c.if-not-exists.false-raw) c.days_before_year.ensures c.days_before_month.ensures
+    counted _ _ _ (ap not (sym c.exists.ensures ∙ c.if-not-exists.false)) c.days_before_year.ensures c.days_before_month.ensures
 
 pub returns-then-not-exists : goal.returns-then-not-exists
-returns-then-not-exists c = day_lacks _ (ap not (sym c.exists.ensures) ∙ c.if-not-exists.true-raw)
+returns-then-not-exists c = day_lacks _ (ap not (sym c.exists.ensures ∙ c.if-not-exists.true))
 
 pub overflow_add-before : goal.overflow_add-before
 overflow_add-before c = record { fits = omega (arith, (known c).most) }

@@ -1,8 +1,0 @@
-use borrow.Author.Tests.{lt-ltb, le-ltb}
-use Rattle.split.proofs.seeds.Seeds.or_worse.Goals as goal
-
-pub returns-then-self-other : goal.returns-then-self-other
-returns-then-self-other c = rw (lt-ltb _ _ c.if-self-other.true)
-
-pub returns : goal.returns
-returns c = rw (le-ltb _ _ c.if-self-other.false)
