@@ -44,7 +44,17 @@ impl Model for Sieve {
     ghost inverse_ok = { λ s h. λ i. record { touching = sym h.touches i; covering = sym h.covers i } };
 }
 
-// Whether each word is at most the one beside it. No early exit: so the machine compares eight words at once.
+// Whether each word is at least the one beside it. No early exit: so the machine compares eight words at once.
+fn each_at_least(words: &[u16], least: &[u16]) -> bool
+    ensures { result ≡ each_at_most least.now words.now }
+{
+    least
+        .iter()
+        .zip(words)
+        .fold(true, |ok, (least, word)| ok & (*least <= *word))
+}
+
+// Whether each word is at most the one beside it.
 fn each_at_most(low: &[u16], high: &[u16]) -> bool
     ensures { result ≡ each_at_most low.now high.now }
 {
@@ -57,7 +67,7 @@ impl Rows {
     fn pass(&self, words: &[u16]) -> bool
         ensures { (result ≡ passes self.now words.now) × Words words.now }
     {
-        each_at_most(&self.least, words) & each_at_most(words, &self.greatest)
+        each_at_least(words, &self.least) & each_at_most(words, &self.greatest)
     }
 }
 
