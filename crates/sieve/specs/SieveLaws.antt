@@ -11,10 +11,14 @@ use Rattle.pages.specs.declared.Entry.{Entry}
 use Rattle.sieve.specs.Sieve.{top_word, passes, touching_rows, covering_rows, question_of, IsSieve, Words}
 use Rattle.sieve.specs.declared.Rows.{Rows}
 
--- the sieve that is made is one
+-- the sieve that is made is one, and its question is the one that it was made of
 pub sieve_is : (q : Box) → IsSieve (touching_rows q) (covering_rows q)
 unfolding touching_rows covering_rows
 sieve_is q = record { touches = refl; covers = refl }
+
+pub question_of_lem : (q : Box) → question_of (touching_rows q) ≡ q
+unfolding touching_rows
+question_of_lem q = refl
 
 -- three tests of low ends and three of high ones, paired
 paired : (a c e b d f : Bool) → (a && (c && (e && true))) && (b && (d && (f && true))) ≡ (a && b) && (c && d) && (e && f)
