@@ -11,7 +11,7 @@ use pages::{Entry, EntryAt};
 use std::marker::Model;
 
 // Words that are tested at once.
-const ROW: usize = 8;
+pub const ROW: usize = 8;
 
 // The least and the greatest that eight words may be.
 #[derive(Clone, Copy)]
