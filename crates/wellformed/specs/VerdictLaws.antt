@@ -1,9 +1,10 @@
 -- The verdict of the flat pass is the definition's.
-use Rattle.std.specs.Prelude.{Some, None, Option, Ok, Err, Result, ok_or, ℕ, zero, suc, ◌+◌, ◌<◌, Bool, ◌&&◌, List, leb, ltb, eqb, slice_get}
+use Rattle.std.specs.Prelude.{Some, None, Option, Ok, Err, Result, ok_or, ℕ, zero, suc, ◌+◌, ◌<◌, Bool, ◌&&◌, not, List, leb, ltb, eqb, slice_get}
 use Rattle.std.specs.Bool.{then_some}
 use Rattle.std.proofs.Math.Bool.{true, false, cond, true≢false}
 use Rattle.std.proofs.Math.Path.{◌≡◌, refl, sym, ap}
 use Rattle.std.proofs.Common.{ap₂, ◌∙◌, add-one, arith, ltb-true, leb-true, eqb-true, eq-eqb, ne_eqb}
+use Rattle.std.proofs.lemmas.Bool.{not-true}
 use Rattle.std.proofs.Math.ListN.{length}
 use Rattle.ground.specs.Sums.{total}
 use Rattle.ground.specs.Tests.{both, three, joint, joint_three, fails}
@@ -69,6 +70,15 @@ all_both ps s (suc n) = crossed (every_below (children_lower ps) n) (every_below
 abbrev pub held_if_well_formed : List ℕ → Small → Option ℕ
 held_if_well_formed t s = then_some (well_formed t s) (length (held_records (pages_of t) s))
 
+-- the refusal where there is no such number
+pub checked_so : (t : List ℕ) (s : Small) → ok_or (held_if_well_formed t s) no.Damaged ≡ checked t s
+unfolding checked
+checked_so t s = by_test (well_formed t s)
+  where
+    by_test : (b : Bool) → ok_or (then_some b (length (held_records (pages_of t) s))) no.Damaged ≡ cond b (Ok (length (held_records (pages_of t) s))) (Err no.Damaged)
+    by_test true = refl
+    by_test false = refl
+
 -- the definition, given that the table fits and the root stands
 module _ (t : List ℕ) (s : Small) (fits : table_fits t ≡ true) (root : root_stands (pages_of t) s ≡ true) where
   passes_all : every_below (page_passes (pages_of t) s) (pages_in t) ≡ (every_below (children_lower (pages_of t)) (length (pages_of t)) && every_below (λ p. page_stands (pages_of t) s p (page (pages_of t) p)) (length (pages_of t)))
@@ -105,36 +115,45 @@ module _ (t : List ℕ) (s : Small) (fits : table_fits t ≡ true) (root : root_
           (ap (counts_stand s) (sym (held_is k.lower k.reached)) ∙ k.counts)
 
   -- a page that does not pass is damage enough; if all pass, the marks and the counts decide
-  pub verdict_damaged : None ≡ found t s → None ≡ held_if_well_formed t s
-  verdict_damaged e = by_test (every_below (page_passes (pages_of t) s) (pages_in t)) _ _ _ e (decided (every_below (page_passes (pages_of t) s) (pages_in t) && every_below (named_once (pages_of t) s) (pages_in t) && counts_stand s (held_in t (pages_in t))) refl)
+  pub found_damaged : None ≡ found t s → None ≡ held_if_well_formed t s
+  found_damaged e = by_test (every_below (page_passes (pages_of t) s) (pages_in t)) _ _ _ e (decided (every_below (page_passes (pages_of t) s) (pages_in t) && every_below (named_once (pages_of t) s) (pages_in t) && counts_stand s (held_in t (pages_in t))) refl)
     where
       by_test : (b n c : Bool) (m : ℕ) {r : Option ℕ} → None ≡ then_some b m → then_some (b && n && c) m ≡ r → None ≡ r
       by_test true n c m e h = cc
       by_test false n c m e h = h
 
-  pub verdict_held : (n : ℕ) (named counts : Bool) → Some n ≡ found t s → named ≡ every_below (named_once (pages_of t) s) (pages_in t) → counts ≡ counts_stand s n → then_some (named && counts) n ≡ held_if_well_formed t s
-  verdict_held n w k e p q = by_test (every_below (page_passes (pages_of t) s) (pages_in t)) w k _ _ e p q (decided (every_below (page_passes (pages_of t) s) (pages_in t) && every_below (named_once (pages_of t) s) (pages_in t) && counts_stand s (held_in t (pages_in t))) refl)
+  pub found_held : (n : ℕ) (named counts : Bool) → Some n ≡ found t s → named ≡ every_below (named_once (pages_of t) s) (pages_in t) → counts ≡ counts_stand s n → then_some (named && counts) n ≡ held_if_well_formed t s
+  found_held n w k e p q = by_test (every_below (page_passes (pages_of t) s) (pages_in t)) w k _ _ e p q (decided (every_below (page_passes (pages_of t) s) (pages_in t) && every_below (named_once (pages_of t) s) (pages_in t) && counts_stand s (held_in t (pages_in t))) refl)
     where
       by_test : (b x y z : Bool) (m : ℕ) {r : Option ℕ} → Some n ≡ then_some b m → x ≡ z → y ≡ counts_stand s n → then_some (b && z && counts_stand s m) m ≡ r → then_some (x && y) n ≡ r
       by_test true x y z m e p q h = let d : n ≡ m = cc in rw (p, q, d) h
       by_test false x y z m e p q h = cc
 
+  -- what the check answers, by what the pass finds and what the marks and the counts say
+  module _ (stands named counts : Bool) (held : ℕ) (hs : stands ≡ every_below (page_passes (pages_of t) s) (pages_in t)) (hh : held ≡ held_in t (pages_in t))
+      (hn : named ≡ every_below (named_once (pages_of t) s) (pages_in t)) (hc : counts ≡ counts_stand s held) where
+    verdict_so : (b : Bool) → stands && named && counts ≡ b → ok_or (then_some b held) no.Damaged ≡ checked t s
+    verdict_so b e = ap (λ r. ok_or r no.Damaged) (rw hh (decided b (rw (sym hs, sym hn, sym hh) (rw hc at e)))) ∙ checked_so t s
+
+    pub verdict_held : stands && named && counts ≡ true → Ok held ≡ checked t s
+    verdict_held e = verdict_so true e
+
+    pub verdict_damaged : stands && named && counts ≡ false → Err no.Damaged ≡ checked t s
+    verdict_damaged e = verdict_so false e
+
 -- a table that does not fit, or a root that does not stand, is damage enough
-pub damaged_table : (t : List ℕ) (s : Small) → table_fits t ≡ false → None ≡ held_if_well_formed t s
+pub no_table : (t : List ℕ) (s : Small) → table_fits t ≡ false → None ≡ held_if_well_formed t s
 unfolding well_formed
-damaged_table t s e = rw e
+no_table t s e = rw e
 
-pub damaged_root : (t : List ℕ) (s : Small) → root_stands (pages_of t) s ≡ false → None ≡ held_if_well_formed t s
-damaged_root t s e = rw (fails (well_formed t s) (λ w. true≢false (sym (parts t s w).root ∙ e)))
+pub no_root : (t : List ℕ) (s : Small) → root_stands (pages_of t) s ≡ false → None ≡ held_if_well_formed t s
+no_root t s e = rw (fails (well_formed t s) (λ w. true≢false (sym (parts t s w).root ∙ e)))
 
--- the refusal where there is no such number
-pub checked_so : (t : List ℕ) (s : Small) → ok_or (held_if_well_formed t s) no.Damaged ≡ checked t s
-unfolding checked
-checked_so t s = by_test (well_formed t s)
-  where
-    by_test : (b : Bool) → ok_or (then_some b (length (held_records (pages_of t) s))) no.Damaged ≡ cond b (Ok (length (held_records (pages_of t) s))) (Err no.Damaged)
-    by_test true = refl
-    by_test false = refl
+pub damaged_table : (t : List ℕ) (s : Small) → not (table_fits t) ≡ true → Err no.Damaged ≡ checked t s
+damaged_table t s e = ap (λ r. ok_or r no.Damaged) (no_table t s (not-true (table_fits t) e)) ∙ checked_so t s
+
+pub damaged_root : (t : List ℕ) (s : Small) → not (root_stands (pages_of t) s) ≡ true → Err no.Damaged ≡ checked t s
+damaged_root t s e = ap (λ r. ok_or r no.Damaged) (no_root t s (not-true (root_stands (pages_of t) s) e)) ∙ checked_so t s
 
 -- what a verdict tells of the book
 module _ (t : List ℕ) (s : Small) (k : Result ℕ Refusal) (e : k ≡ checked t s) where
