@@ -1,9 +1,9 @@
 -- Laws of the tests of words, and where the words of a page lie.
-use Rattle.std.specs.Prelude.{fold, ℕ, Bool, true, ◌&&◌, List, [], ◌∷◌, ◌≡◌, refl, eqb}
+use Rattle.std.specs.Prelude.{fold, ℕ, Bool, true, ◌&&◌, List, [], ◌∷◌, ◌++◌, ◌≡◌, refl, eqb, length}
 use Rattle.std.proofs.Math.Bool.{and-true, and_assoc}
-use Rattle.std.proofs.Common.{sym, ◌∙◌, arith, eqb-true}
+use Rattle.std.proofs.Common.{sym, ap, ◌∙◌, arith, eqb-true}
 use Rattle.ground.specs.Tests.{both}
-use Rattle.pages.specs.Layout.{words_of_box, words_of_entry}
+use Rattle.pages.specs.Layout.{words_of_range, words_of_box, words_of_entry}
 use Rattle.ground.specs.declared.boxes.Range.{Range}
 use Rattle.ground.specs.declared.boxes.Box.{Box}
 use Rattle.pages.specs.declared.Entry.{Entry}
@@ -26,6 +26,25 @@ same_words_lem (x ∷ xs) (y ∷ ys) e =
     let p = eqb-true x y h.0 in
     let q = same_words_lem xs ys h.1 in
     λ i. p i ∷ q i
+
+-- lists of equal length joined
+pub same_append : (v v' w w' : List ℕ) → length v ≡ length v' → same_words (v ++ w) (v' ++ w') ≡ (same_words v v' && same_words w w')
+unfolding same_words
+same_append [] [] w w' e = refl
+same_append [] (y ∷ ys) w w' e = absurd (omega arith)
+same_append (x ∷ xs) [] w w' e = absurd (omega arith)
+same_append (x ∷ xs) (y ∷ ys) w w' e = rw (same_append xs ys w w' (omega arith)) (sym (and_assoc (eqb x y) (same_words xs ys) (same_words w w')))
+
+-- the tests of an entry's words, part by part
+pub same_range_is : (a b : Range) → (eqb a.low b.low && eqb a.high b.high) ≡ same_words (words_of_range a) (words_of_range b)
+unfolding same_words
+same_range_is a b = rw (and-true (eqb a.high b.high))
+
+pub same_box_is : (a b : Box) → (same_words (words_of_range a.east) (words_of_range b.east) && (same_words (words_of_range a.north) (words_of_range b.north) && same_words (words_of_range a.day) (words_of_range b.day))) ≡ same_words (words_of_box a) (words_of_box b)
+unfolding words_of_box
+same_box_is a b =
+    sym (same_append (words_of_range a.east) (words_of_range b.east) (words_of_range a.north ++ words_of_range a.day) (words_of_range b.north ++ words_of_range b.day) refl
+    ∙ ap (λ t. same_words (words_of_range a.east) (words_of_range b.east) && t) (same_append (words_of_range a.north) (words_of_range b.north) (words_of_range a.day) (words_of_range b.day) refl))
 
 -- entries are the same exactly if their words are
 abbrev same_range : Range → Range → Bool
