@@ -1,10 +1,10 @@
-// The search of a page, which searches the pages that it opens, one level lower each time. None: a page may not be opened.
+// The search of a page and the search of one entry, which call each other, one level lower each time. None: a page may not be opened.
 // Entries are read where they lie. The question goes along as a sieve, so that a box is tested by one comparison of eight words.
 // The best is a number, 0 for nothing and v + 1 for a gust v: an `Option` is compared in more steps at every entry, a tenth slower.
 ghost use Rattle.std.specs.Prelude.{true, ◌≡◌, ◌+◌, ◌-◌, ◌≤◌, IsSome, IfSome};
 ghost use Rattle.pages.specs.Layout.{table_fits, pages_of};
 ghost use Rattle.pages.specs.Summary.{in_use};
-ghost use Rattle.asking.specs.Asking.{raised, step, least_root, search_book, answered};
+ghost use Rattle.asking.specs.Asking.{found, raised, step, search_entry, search_page, least_root, search_book, answered};
 ghost use Rattle.asking.specs.Seen.{most_best, seen, raised_by, opens, searched_in};
 
 use crate::Asked;
@@ -79,6 +79,7 @@ fn decide(entry: &EntryAt, q: &Sieve, best: u32) -> Step
 }
 
 // The search of a page, which has been opened: its entries in order.
+#[cycle(search_entry_search_page)]
 fn search_page(
     t: &[u16],
     page: &PageAt,
@@ -94,20 +95,35 @@ fn search_page(
     if level == 1 {
         return Some(search_leaf(page, q, best));
     }
-    // A copy of the sieve stays in registers, whatever is written to `opened`.
-    let rows = *q;
     let mut best = best;
     for i in 0..page.in_use() {
-        match decide(&page.entry(i), &rows, best) {
-            Step::Pass => {}
-            Step::Raise(gust) => best = u32::from(gust) + 1,
-            Step::Open(child) => {
-                let child = open(t, usize::from(child), level - 1, 1, opened)?;
-                best = search_page(t, &child, level - 1, q, best, opened)?;
-            }
-        }
+        best = search_entry(t, &page.entry(i), level, q, best, opened)?;
     }
     Some(best)
+}
+
+// The search of an entry of an index page.
+#[cycle(search_entry_search_page)]
+fn search_entry(
+    t: &[u16],
+    entry: &EntryAt,
+    level: u32,
+    q: &Sieve,
+    best: u32,
+    opened: &mut u32,
+) -> Option<u32>
+    requires { (table_fits t.now ≡ true) × (2 ≤ level) × (best ≤ most_best) }
+    ensures comes { seen result opened.new ≡ search_entry (search_page (pages_of t.now) q.now (level - 1) 1) q.now entry.now (found best opened.old) }
+    ensures low { IfSome result (λ b. b ≤ most_best) }
+{
+    match decide(entry, q, best) {
+        Step::Pass => Some(best),
+        Step::Raise(gust) => Some(u32::from(gust) + 1),
+        Step::Open(child) => {
+            let child = open(t, usize::from(child), level - 1, 1, opened)?;
+            search_page(t, &child, level - 1, q, best, opened)
+        }
+    }
 }
 
 // A leaf root may be empty.
