@@ -1,4 +1,4 @@
-use Rattle.std.proofs.Common.{rules, ap, ◌∙◌, ◌≡◌, ◌-◌}
+use Rattle.std.proofs.Common.{rules, ap, ◌∙◌, ◌-◌}
 use Rattle.pages.specs.Layout.{pages_of}
 use Rattle.asking.specs.Seen.{searched_in}
 use Rattle.asking.specs.Turns.{opened_level, root_refused, root_opened}
@@ -12,8 +12,7 @@ search_page-requires c = (c.requires.0, opened_level _ _ _ _ _ _ c.in_ok-root.en
 
 pub returns-clause-comes : goal.returns-clause-comes
 returns-clause-comes c =
-    let e : c.open.new.opened ≡ 1 = search rules in
     c.search_page.ensures.comes
-    ∙ ap (searched_in (pages_of c.args.t.now) c.of-sieve.result (c.args.s.height - 1) c.in_ok-root.root 0) e
+    ∙ ap (searched_in (pages_of c.args.t.now) c.of-sieve.result (c.args.s.height - 1) c.in_ok-root.root 0) (search rules)
     ∙ ap (λ b. searched_in (pages_of c.args.t.now) b (c.args.s.height - 1) c.in_ok-root.root 0 1) c.of-sieve.ensures
     ∙ root_opened _ c.args.s _ _ c.least_root.ensures _ (rw c.requires.1 at c.in_ok-root.ensures.finds)
