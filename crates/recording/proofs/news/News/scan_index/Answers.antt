@@ -1,4 +1,5 @@
-use Rattle.std.proofs.Common.{◌≡◌, arith, ap, sym, ◌∙◌}
+use Rattle.std.proofs.Common.{◌≡◌, ◌≤◌, ◌<◌, arith, ap, sym, ◌∙◌}
+use Rattle.std.proofs.lemmas.Bool.Decides.{nat_tests}
 use Rattle.pages.specs.Summary.{in_use}
 use Rattle.pages.specs.ViewLaws.{used_entry}
 use Rattle.recording.specs.LookSteps.{met_there, passed_over, strong_met, weak_passed}
@@ -26,8 +27,12 @@ loop-i-preserved c =
     ] in
     let r : sought_of c.if-self-weakest.found ≡ candidate (leb v e.weakest) e.union (sought_of c.if-touches_strongest.found) =
     elim c.if-self-weakest.branch [
-      | then-self-weakest w ↦ ap sought_of w.found-is ∙ strong_met v _ _ _ _ _ _ c.weakest.ensures w.if-self-weakest.true w.union.ensures w.meet-found-then-self-weakest.ensures
-      | else-self-weakest w ↦ ap sought_of w.found-is ∙ weak_passed v _ _ _ _ c.weakest.ensures w.if-self-weakest.false
+      | then-self-weakest w ↦
+          let reaches : v ≤ c.weakest.result = grind (arith, nat_tests, w.if-self-weakest.true) in
+          ap sought_of w.found-is ∙ strong_met v _ _ _ _ _ _ c.weakest.ensures reaches w.union.ensures w.meet-found-then-self-weakest.ensures
+      | else-self-weakest w ↦
+          let weak : c.weakest.result < v = grind (arith, nat_tests, w.if-self-weakest.false) in
+          ap sought_of w.found-is ∙ weak_passed v _ _ _ _ c.weakest.ensures weak
     ] in
     let scanned = index_scanned v e s _ _ m r in
     scanned ∙ scan_more 1 v c.loop-i.i (in_use c.args.page.now) e (sought_of c.args.s) s
