@@ -56,3 +56,7 @@ grown_is b p s g q h = omega (arith, grows b p)
 
 pub choice_made : (b : Box) (e : Entry) (p : Box) (i s g : ℕ) → p ≡ e.place → s ≡ size p → g ≡ size (join p b) → ◌≡◌ {A = Choice} (record { at = i; growth = g - s; size = s }) (choice_of b e i)
 choice_made b e p i s g d q r = choice_is b e i g s (g - s) (r ∙ ap (λ x. size (join x b)) d) (q ∙ ap size d) refl
+
+pub choose_none : (b : Box) (es : List Entry) (n : ℕ) → n ≡ length es → n ≡ 0 → 0 ≡ choose b es
+unfolding choose least_grown
+choose_none b es n e z = let y : length es - 1 ≡ 0 = omega arith in rw y

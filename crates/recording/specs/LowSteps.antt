@@ -28,6 +28,9 @@ none_most : (ps : List Page) (n : ℕ) → NoneFree ps n → n ≤ length ps
 none_most ps zero h = omega arith
 none_most ps (suc n) h = omega (arith, (h n (omega arith)).0)
 
+pub none_but_none : (ps : List Page) (p : ℕ) → NoneBut ps p 0
+none_but_none ps p = record { most = omega arith; others = λ k l d. absurd (omega arith) }
+
 -- the page come back to is written
 pub low_but : (ps qs : List Page) (p q : ℕ) (o : Became) (y : Page) → qs ≡ set ps p y → o ≡ split q → Low o ps → NoneBut qs p q
 low_but ps qs p q o y e d h =

@@ -56,6 +56,12 @@ pub one_record : (n c : ℕ) (t : List ℕ) → n ≡ 0 → Frees t t 1 (strike_
 unfolding strike_one
 one_record n c t z = rw z (record { same_length = refl; pages_are = refl; struck_is = refl })
 
+-- a leaf: every entry is a record
+pub all_of_leaf : (ps : List Page) (es : List Entry) → strike_all (strike_one zero) ps es ≡ record { pages = ps; records = length es }
+unfolding strike_all strike_one
+all_of_leaf ps [] = refl
+all_of_leaf ps (e ∷ es) = let h = all_of_leaf ps es in let z : 1 + length es ≡ suc (length es) = omega arith in rw (h, z)
+
 -- the children that are named by the entries in use
 pub children_used : (x : Page) (n : ℕ) (cs : List ℕ) → n ≡ length (in_use x) → cs ≡ map child_of x.entries → take n cs ≡ map child_of (in_use x)
 children_used x n cs e d = ap (take n) d ∙ take-map child_of n x.entries ∙ ap (map child_of) (⊎_elim few all (below_or_not n x.count))

@@ -57,6 +57,9 @@ in_use_most n es k e m h d = ⊎_elim (λ (l : n < page_entries). ap (λ j. take
     all : page_entries ≤ n → page_entries ≤ k
     all l = omega arith
 
+pub used_most : (x : Page) → length x.entries ≡ page_entries → length (in_use x) ≤ page_entries
+used_most x e = omega (arith, length-take x.count x.entries)
+
 -- how many entries of page p are in use, and that there is such a page if some are
 pub record UsedAt (t : List ℕ) (p r : ℕ) : Type 0 where
   pub is : r ≡ length (in_use (page (pages_of t) p))
