@@ -3,5 +3,7 @@ pub mod Split
 pub mod SplitLaws
 pub mod Sizes
 pub mod Working
+pub mod Room
+pub mod RoomLaws
 pub mod WorkLaws
 pub mod Examples

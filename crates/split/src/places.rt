@@ -1,23 +1,32 @@
-// Places of the nine, in some order: at most nine, so that they lie in an array; past their number it means nothing.
-ghost use Rattle.std.specs.Prelude.{◌≡◌, ℕ, List, [], ◌∷◌, ◌++◌, ◌+◌, ◌<◌, ◌≤◌, length, take, get_or};
+// Places of the nine, in some order: at most nine, so that they lie in an array; past their number it is 0.
+ghost use Rattle.std.specs.Prelude.{◌≡◌, ℕ, [], ◌∷◌, ◌++◌, ◌+◌, ◌<◌, ◌≤◌, length, get_or};
 ghost use Rattle.split.specs.Split.{places, without};
 
 use crate::filling::Nine;
 use std::array;
 use std::marker::Model;
 
-#[derive(Drop)]
+#[derive(Clone, Copy)]
 pub struct Places {
     at: [usize; Nine::ENTRIES],
     count: usize,
 }
 
 impl Model for Places {
+    ghost use Rattle.std.specs.Prelude.{ℕ, List, length, take};
+    ghost use Rattle.split.specs.Room.{ArePlaces, room_of};
+    ghost use Rattle.split.specs.RoomLaws.{room_again, count_again};
+
     ghost Value = { List ℕ };
 
     ghost view = { λ p. take p.count p.at };
 
-    ghost invariant = { λ p. (p.count ≤ 9) × ((k : ℕ) → k < 9 → get_or p.at k 0 < 9) };
+    ghost invariant = { λ p. ArePlaces p.at p.count };
+
+    // Its array is that of its places, so it may be copied.
+    ghost inverse = { λ is. record { at = room_of is; count = length is } };
+
+    ghost inverse_ok = { λ p h. λ k. record { at = room_again p.at p.count h k; count = count_again p.at p.count h k } };
 }
 
 impl Places {
@@ -34,10 +43,9 @@ impl Places {
         requires { i < 9 }
         ensures { result ≡ i ∷ [] }
     {
-        Places {
-            at: [i; Nine::ENTRIES],
-            count: 1,
-        }
+        let mut at = [0; Nine::ENTRIES];
+        at[0] = i;
+        Places { at, count: 1 }
     }
 
     pub fn count(&self) -> usize
@@ -69,6 +77,7 @@ impl Places {
         let end = self.count + others.count;
         self.at[self.count..end].copy_from_slice(&others.at[..others.count]);
         self.count = end;
+        others.at = [0; Nine::ENTRIES];
         others.count = 0;
     }
 
@@ -81,6 +90,7 @@ impl Places {
         let i = places[at];
         places.copy_within(at + 1..self.count, at);
         self.count -= 1;
+        places[self.count] = 0;
         i
     }
 }

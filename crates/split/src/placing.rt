@@ -9,7 +9,7 @@ use crate::side::Side;
 use ground::Box;
 use std::marker::Model;
 
-#[derive(Drop)]
+#[derive(Clone, Copy)]
 pub struct Sides {
     pub first: Side,
     pub second: Side,
@@ -22,6 +22,8 @@ impl Model for Sides {
     ghost view = { λ s. record { first = s.first; second = s.second; unplaced = s.left } };
 
     ghost invariant = { λ s. length s.first.members + length s.second.members + length s.left ≡ 9 };
+
+    ghost inverse = { λ g. record { first = g.first; second = g.second; left = g.unplaced } };
 }
 
 // One of the unplaced, by how much either group grows with it, and by how much these differ.

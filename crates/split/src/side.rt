@@ -8,7 +8,7 @@ use crate::places::Places;
 use ground::Box;
 use std::marker::Model;
 
-#[derive(Drop)]
+#[derive(Clone, Copy)]
 pub struct Side {
     pub members: Places,
     pub cover: Box,
@@ -17,6 +17,7 @@ pub struct Side {
 
 impl Model for Side {
     ghost use Rattle.std.specs.Prelude.{◌≡◌};
+    ghost use Rattle.std.proofs.Common.{sym};
     ghost use Rattle.ground.specs.Boxes.{size as box_size};
     ghost use Rattle.split.specs.Split.{Group};
 
@@ -25,6 +26,10 @@ impl Model for Side {
     ghost view = { λ s. record { members = s.members; cover = s.cover } };
 
     ghost invariant = { λ s. s.size ≡ box_size s.cover };
+
+    ghost inverse = { λ g. record { members = g.members; cover = g.cover; size = box_size g.cover } };
+
+    ghost inverse_ok = { λ s h. λ i. record { members = s.members; cover = s.cover; size = sym h i } };
 }
 
 impl Side {
