@@ -125,9 +125,9 @@ impl Sides {
         requires { 0 < length self.old.unplaced }
         ensures { Onward boxes.now self.old self.new }
     {
-        if self.first.needs_all(&self.left) {
+        if self.first.needs_all(&self.left, Side::LEAST) {
             self.first.take_all(&mut self.left);
-        } else if self.second.needs_all(&self.left) {
+        } else if self.second.needs_all(&self.left, Side::LEAST) {
             self.second.take_all(&mut self.left);
         } else {
             self.place(boxes);

@@ -1,6 +1,6 @@
 // A group as it grows: its members in order of placing, the box that covers them, and that box's size.
-ghost use Rattle.std.specs.Prelude.{◌≡◌, [], ◌<◌, ◌+◌, ◌≤◌, length};
-ghost use Rattle.split.specs.Split.{begun, takes, takes_all, needs_all, growth};
+ghost use Rattle.std.specs.Prelude.{◌≡◌, [], ◌<◌, ◌+◌, ◌≤◌, leb, length};
+ghost use Rattle.split.specs.Split.{begun, takes, takes_all, growth};
 
 use crate::covers::cover_size;
 use crate::filling::Nine;
@@ -47,10 +47,10 @@ impl Side {
         }
     }
 
-    pub fn needs_all(&self, left: &Places) -> bool
-        ensures { result ≡ needs_all self.now left.now }
+    pub fn needs_all(&self, left: &Places, least: usize) -> bool
+        ensures { result ≡ leb (length self.now.members + length left.now) least }
     {
-        self.members.count() + left.count() <= Side::LEAST
+        self.members.count() + left.count() <= least
     }
 
     pub fn growth(&self, b: Box) -> u64
