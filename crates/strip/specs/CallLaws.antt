@@ -1,20 +1,23 @@
 -- Laws of the calls' steps: each closes a return.
-use Rattle.std.specs.Prelude.{ℕ, suc, ◌+◌, ◌-◌, ◌≤◌, ◌<◌, min, true, List, [], ◌∷◌, ◌++◌, ◌≡◌, length, get_or, set}
+use Rattle.std.specs.Prelude.{ℕ, suc, ◌+◌, ◌-◌, ◌≤◌, ◌<◌, min, Bool, true, false, not, List, [], ◌∷◌, ◌++◌, Option, Ok, Err, ◌≡◌, leb, length, get_or, set}
 use Rattle.std.proofs.Common.{append-nil, append_assoc, drop-drop, ◌∙◌, add-one, arith, length-append, length-take, drop_at, length-take-le}
 use Rattle.std.proofs.Math.Path.{refl, sym, ap}
-use borrow.Author.Tests.{le-leb, lt-leb, eq-eqb, ne_eqb}
+use borrow.Author.Tests.{le-leb, lt-leb, eq-eqb, ne_eqb, not-true, not-false}
 use Rattle.std.proofs.Math.ListN.{take, drop, length-drop, drop_of_length-le}
 use borrow.Rule.Slice.PartMut.{put_mid}
-use Rattle.ground.specs.Boxes.{day_limit, holds}
+use Rattle.ground.specs.Boxes.{day_limit, gust_limit, holds, legal_on}
 use Rattle.ground.specs.Facts.{holding}
 use Rattle.ground.specs.Tests.{fails}
-use Rattle.strip.specs.Strips.{all_days, segment, value_of, value_on, parts, no_value, in_front, parting, raised}
-use Rattle.strip.specs.StripCalls.{most_segments, stand_for, holding as holding_new, refused, cleared, fitted, lent}
+use Rattle.ground.specs.declared.boxes.Range.{Range}
+use Rattle.ground.specs.declared.refusals.Refusal.TheVariants as no
+use Rattle.strip.specs.Strips.{all_days, greatest_value, segment, value_of, value_on, parts, no_value, in_front, parting, raised, greatest_on}
+use Rattle.strip.specs.StripCalls.{Lent, most_segments, segments, meaning, is_strip, stand_for, holding as holding_new, Left, refused, cleared, with_record, fitted, recorded, greatest_in, answer_of, asked, lent}
 use Rattle.strip.specs.PartingLaws.{parting_piece, ends_last}
 use Rattle.strip.specs.Places.{first_day, Found}
 use Rattle.strip.specs.Walking.{words_of, after, Walked}
 use Rattle.strip.specs.WalkingLaws.{first_next}
-use Rattle.strip.specs.KnownLaws.{first_step, first_later, value_there, value_past_all, words_after, words_before}
+use Rattle.strip.specs.KnownLaws.{Known, first_step, first_later, value_there, value_most, value_past_all, words_after, words_before}
+use Rattle.strip.specs.AskLaws.{greatest_most}
 use Rattle.strip.specs.declared.Strip.{Strip}
 use Rattle.strip.specs.declared.raising.Raise.{Raise}
 use Rattle.strip.specs.declared.walking.Walk.{Walk}
@@ -134,3 +137,40 @@ module _ (words made : List ℕ) (start : ℕ) (s : Strip) (room : length words 
       let size = new_length in
       rw (le-leb (length (take start words ++ made)) most_segments (omega arith), size, e, f)
       (ap (λ w. record { refusal = 0; strip = record { words = w; count = start + length made } }) (simp (append_assoc, drop-drop)))
+
+-- which refusal the calls give after their tests, and that there is none
+module _ (s : Lent) (days : Range) (t : Bool) (e : t ≡ legal_on day_limit days) where
+  pub record_2 : (gust : ℕ) → not t ≡ true → refused 2 s ≡ recorded s days gust
+  unfolding recorded
+  record_2 gust h = rw (sym e ∙ not-true t h) refl
+
+  pub ask_2 : not t ≡ true → Err no.Box ≡ asked s days
+  unfolding asked
+  ask_2 h = rw (sym e ∙ not-true t h) refl
+
+  module _ (h : not t ≡ false) (u : Bool) (f : u ≡ is_strip s) where
+    pub ask_4 : not u ≡ true → Err no.Damaged ≡ asked s days
+    unfolding asked
+    ask_4 k = rw (sym e ∙ not-false t h, sym f ∙ not-true u k) refl
+
+    pub ask_answers : (value : ℕ) (a : Option ℕ) → not u ≡ false → value ≡ greatest_on (meaning s) days.low (suc days.high - days.low) → a ≡ answer_of value → Ok a ≡ asked s days
+    unfolding asked greatest_in
+    ask_answers value a k v b = rw (sym e ∙ not-false t h, sym f ∙ not-false u k, b, v) refl
+
+  module _ (h : not t ≡ false) (gust : ℕ) (p : Bool) (g : p ≡ leb gust gust_limit) where
+    pub record_3 : not p ≡ true → refused 3 s ≡ recorded s days gust
+    unfolding recorded
+    record_3 k = rw (sym e ∙ not-false t h, sym g ∙ not-true p k) refl
+
+    module _ (q : not p ≡ false) (u : Bool) (f : u ≡ is_strip s) where
+      pub record_4 : not u ≡ true → refused 4 s ≡ recorded s days gust
+      unfolding recorded
+      record_4 k = rw (sym e ∙ not-false t h, sym g ∙ not-false p q, sym f ∙ not-true u k) refl
+
+      pub record_fits : (l : Left) → not u ≡ false → l ≡ fitted (with_record s days gust) s → l ≡ recorded s days gust
+      unfolding recorded
+      record_fits l k a = rw (sym e ∙ not-false t h, sym g ∙ not-false p q, sym f ∙ not-false u k) a
+
+-- an answer is a value that a day may have
+pub answer_small : (s : Lent) (value : ℕ) (days : Range) → Known s → value ≡ greatest_on (meaning s) days.low (suc days.high - days.low) → value ≤ greatest_value
+answer_small s value days known e = omega (arith, greatest_most (meaning s) days.low (suc days.high - days.low) (value_most (segments s) known.good))

@@ -1,10 +1,10 @@
 -- What is known of the words of a strip that parts all days.
-use Rattle.std.specs.Prelude.{ℕ, suc, ◌+◌, ◌-◌, ◌≤◌, ◌<◌, true, ◌&&◌, ◌≡◌, length, get_or, leb, eqb, ◌⊎◌}
+use Rattle.std.specs.Prelude.{ℕ, suc, ◌+◌, ◌-◌, ◌≤◌, ◌<◌, true, false, ◌&&◌, ◌≡◌, length, get_or, leb, eqb, ◌⊎◌}
 use mathlib.Core.List.{List, [], ◌∷◌, ◌++◌}
 use Rattle.std.proofs.Common.{◌∙◌, arith, length-take}
-use borrow.Author.Tests.{leb-true, eqb-true}
+use borrow.Author.Tests.{leb-true, eqb-true, lt-leb, eq-eqb, ne_eqb}
 use Rattle.std.proofs.Math.Seq.{drop-length}
-use Rattle.std.proofs.Math.Path.{ap}
+use Rattle.std.proofs.Math.Path.{sym, ap, ap₂}
 use Rattle.std.proofs.Math.ListN.{take, drop}
 use Rattle.strip.specs.Strips.{all_days, greatest_value, no_value, last_of, value_of, value_on, parts, parting}
 use Rattle.strip.specs.PartingLaws.{parted, begins, value_within, value_past, Values}
@@ -35,6 +35,15 @@ strip_known s e =
     let h = both (eqb (length s.words) most_segments && leb s.count most_segments) (parts 0 no_value (segments s)) e in
     let k = both (eqb (length s.words) most_segments) (leb s.count most_segments) h.0 in
     record { good = h.1; most = leb-true s.count most_segments k.1; room = eqb-true (length s.words) most_segments k.0 }
+
+-- with other room, or with more in use than there is room for, the test fails
+pub too_many : (s : Lent) → length s.words ≡ most_segments → most_segments < s.count → false ≡ is_strip s
+unfolding is_strip
+too_many s k h = ap₂ (λ t u. (t && u) && parts 0 no_value (segments s)) (sym (eq-eqb (length s.words) most_segments k)) (sym (lt-leb s.count most_segments h))
+
+pub wrong_room : (s : Lent) → (length s.words ≡ most_segments → ⊥) → false ≡ is_strip s
+unfolding is_strip
+wrong_room s h = ap (λ t. (t && leb s.count most_segments) && parts 0 no_value (segments s)) (sym (ne_eqb (length s.words) most_segments h))
 
 pub used_length : (s : Lent) → Known s → length (segments s) ≡ s.count
 used_length s known = omega (arith, length-take s.count s.words, known.most, known.room)
