@@ -1,5 +1,5 @@
 -- Laws of the calls' steps: each closes a return.
-use Rattle.std.specs.Prelude.{ℕ, suc, ◌+◌, ◌-◌, ◌≤◌, ◌<◌, min, Bool, true, false, not, List, [], ◌∷◌, ◌++◌, Option, Ok, Err, ◌≡◌, leb, length, get_or, set}
+use Rattle.std.specs.Prelude.{ℕ, suc, ◌+◌, ◌-◌, ◌≤◌, ◌<◌, min, Bool, true, false, not, ◌&&◌, List, [], ◌∷◌, ◌++◌, Option, Ok, Err, ◌≡◌, leb, eqb, length, get_or, set}
 use Rattle.std.proofs.Common.{append-nil, append_assoc, drop-drop, ◌∙◌, add-one, arith, length-append, length-take, drop_at, length-take-le}
 use Rattle.std.proofs.Math.Path.{refl, sym, ap}
 use borrow.Author.Tests.{le-leb, lt-leb, eq-eqb, ne_eqb, not-true, not-false}
@@ -15,8 +15,8 @@ use Rattle.strip.specs.StripCalls.{Lent, most_segments, segments, meaning, is_st
 use Rattle.strip.specs.PartingLaws.{parting_piece, ends_last}
 use Rattle.strip.specs.Places.{first_day, Found}
 use Rattle.strip.specs.Walking.{words_of, after, Walked}
-use Rattle.strip.specs.WalkingLaws.{first_next}
-use Rattle.strip.specs.KnownLaws.{Known, first_step, first_later, value_there, value_most, value_past_all, words_after, words_before}
+use Rattle.strip.specs.WalkingLaws.{first_next, Passed, passed_all}
+use Rattle.strip.specs.KnownLaws.{Known, strip_parts, first_step, first_later, value_there, value_most, value_past_all, words_after, words_before}
 use Rattle.strip.specs.AskLaws.{greatest_most}
 use Rattle.strip.specs.declared.Strip.{Strip}
 use Rattle.strip.specs.declared.raising.Raise.{Raise}
@@ -137,6 +137,13 @@ module _ (words made : List ℕ) (start : ℕ) (s : Strip) (room : length words 
       let size = new_length in
       rw (le-leb (length (take start words ++ made)) most_segments (omega arith), size, e, f)
       (ap (λ w. record { refusal = 0; strip = record { words = w; count = start + length made } }) (simp (append_assoc, drop-drop)))
+
+-- the check of a strip: what is passed of all the words in use is the whole test
+pub passed_strip : (s : Lent) (good : Bool) (first before i : ℕ) → length s.words ≡ most_segments → s.count ≤ most_segments → Passed (segments s) good first before i → i ≤ s.count → s.count ≤ i
+    → good && eqb first all_days ≡ is_strip s
+passed_strip s good first before i room most h p q =
+    let n = length-take-le s.count s.words (omega arith) in
+    passed_all (segments s) good first before i all_days h (omega arith) (omega arith) refl ∙ strip_parts s room most
 
 -- which refusal the calls give after their tests, and that there is none
 module _ (s : Lent) (days : Range) (t : Bool) (e : t ≡ legal_on day_limit days) where

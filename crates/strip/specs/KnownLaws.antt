@@ -2,7 +2,7 @@
 use Rattle.std.specs.Prelude.{ℕ, suc, ◌+◌, ◌-◌, ◌≤◌, ◌<◌, true, false, ◌&&◌, ◌≡◌, length, get_or, leb, eqb, ◌⊎◌}
 use mathlib.Core.List.{List, [], ◌∷◌, ◌++◌}
 use Rattle.std.proofs.Common.{◌∙◌, arith, length-take}
-use borrow.Author.Tests.{leb-true, eqb-true, lt-leb, eq-eqb, ne_eqb}
+use borrow.Author.Tests.{leb-true, eqb-true, le-leb, lt-leb, eq-eqb, ne_eqb}
 use Rattle.std.proofs.Math.Seq.{drop-length}
 use Rattle.std.proofs.Math.Path.{sym, ap, ap₂}
 use Rattle.std.proofs.Math.ListN.{take, drop}
@@ -36,7 +36,11 @@ strip_known s e =
     let k = both (eqb (length s.words) most_segments) (leb s.count most_segments) h.0 in
     record { good = h.1; most = leb-true s.count most_segments k.1; room = eqb-true (length s.words) most_segments k.0 }
 
--- with other room, or with more in use than there is room for, the test fails
+-- with the room of a strip, and no more in use, its test is that of the words in use; with other room, or more in use, it fails
+pub strip_parts : (s : Lent) → length s.words ≡ most_segments → s.count ≤ most_segments → parts 0 no_value (segments s) ≡ is_strip s
+unfolding is_strip
+strip_parts s k h = ap₂ (λ t u. (t && u) && parts 0 no_value (segments s)) (sym (eq-eqb (length s.words) most_segments k)) (sym (le-leb s.count most_segments h))
+
 pub too_many : (s : Lent) → length s.words ≡ most_segments → most_segments < s.count → false ≡ is_strip s
 unfolding is_strip
 too_many s k h = ap₂ (λ t u. (t && u) && parts 0 no_value (segments s)) (sym (eq-eqb (length s.words) most_segments k)) (sym (lt-leb s.count most_segments h))
