@@ -1,13 +1,13 @@
 -- Asking: the segment that has a day, and the greatest value over the segments from one to another.
 use Prim.Native.Nat.{ℕ, zero, suc, ◌+◌, ◌-◌, ◌≤◌, ◌<◌, max}
-use Rattle.std.specs.Prelude.{List, ◌⊎◌, ◌≡◌, refl, true, false, ltb, length, take, drop, get_or, fold}
+use Rattle.std.specs.Prelude.{List, [], ◌∷◌, Bool, cond, ◌⊎◌, ◌≡◌, refl, true, false, ltb, length, take, drop, get_or, fold}
 use Rattle.std.proofs.Math.Logic.{◌⊎◌.inl, ◌⊎◌.inr}
-use Rattle.std.proofs.Common.{ap, drop-cons, get_or-drop, length-drop}
-use Rattle.std.proofs.lemmas.List.{take_rest}
+use Rattle.std.proofs.Common.{ap, sym, ◌∙◌, add-one, one-add, drop-cons, get_or-drop, length-drop}
+use Rattle.std.proofs.lemmas.List.{take_rest, drop_all}
 use Rattle.std.specs.List.{prefix_len}
 use Rattle.std.proofs.lemmas.List.Sums.{prefix_len_passes, prefix_len_stops, prefix_len-le-length}
 use native.Mathlib.Omega.{arith}
-use borrow.Author.Tests.{ltb-true, ltb-false}
+use borrow.Author.Tests.{ltb-true, ltb-false, lt-ltb, le-ltb}
 use Rattle.std.specs.List.Sorted.{IsNonDecreasingBy, IsPartitionPoint}
 use Rattle.std.proofs.lemmas.List.Sorted.{IsNonDecreasingBy-from_default}
 use Rattle.ground.specs.Boxes.{day_limit}
@@ -157,3 +157,46 @@ module _ (words : List ℕ) (good : parts 0 no_value words ≡ true) where
         let p = prefix_len_stops (λ w. ltb (last_of w) day) (drop i words) 0 (omega (arith, e, length-drop i words)) in
         let q = rw (← e, get_or-drop i words n 0) at p in
         record { inside = inside; from = begins_before n refl; to = ltb-false (last_of (get_or words (i + n) 0)) day q }
+
+  -- the segments from the one that has a day on, up to the first that ends on a later day or after it
+  pub greatest_until :
+      (days : Range) (i best : ℕ) (rest : List ℕ) → LegalOn day_limit days → Found words days.low i → rest ≡ take (length words - i) (drop i words)
+      → best ≡ fold (λ a w. max a (value_of w)) 0 (take (suc (prefix_len (λ w. ltb (last_of w) days.high) rest)) rest) → best ≡ greatest_on (value_on words) days.low (suc days.high - days.low)
+  greatest_until days i best rest l a r e =
+      let n = prefix_len (λ w. ltb (last_of w) days.high) rest in
+      let there = later_found days.high i n (omega (arith, l.within)) a.inside (omega (arith, a.from, l.order)) (ap (prefix_len (λ w. ltb (last_of w) days.high)) r) in
+      let all : rest ≡ drop i words = simp take_rest at r in
+      let z : suc n ≡ i + n + 1 - i = omega arith in
+      e ∙ ap (λ (ws : List ℕ). fold (λ a w. max a (value_of w)) 0 (take (suc n) ws)) all
+      ∙ ap (λ (m : ℕ). fold (λ a w. max a (value_of w)) 0 (take m (drop i words))) z
+      ∙ greatest_over days i (i + n) l a there (omega arith)
+
+-- The greatest value, from one so far on, of the segments up to the first that ends on a day or after it.
+unfoldable pub up_to : ℕ → List ℕ → ℕ → ℕ
+up_to day [] best = best
+up_to day (w ∷ ws) best = cond (ltb (last_of w) day) (up_to day ws (max best (value_of w))) (max best (value_of w))
+
+pub up_to_is : (day : ℕ) (ws : List ℕ) (best : ℕ) → up_to day ws best ≡ fold (λ a w. max a (value_of w)) best (take (suc (prefix_len (λ w. ltb (last_of w) day) ws)) ws)
+unfolding up_to
+up_to_is day [] best = refl
+up_to_is day (w ∷ ws) best = by_test (ltb (last_of w) day) (up_to_is day ws (max best (value_of w)))
+  where
+    by_test :
+        (t : Bool) → up_to day ws (max best (value_of w)) ≡ fold (λ a w. max a (value_of w)) (max best (value_of w)) (take (suc (prefix_len (λ w. ltb (last_of w) day) ws)) ws)
+        → cond t (up_to day ws (max best (value_of w))) (max best (value_of w))
+        ≡ fold (λ a w. max a (value_of w)) best (take (suc (cond t (1 + prefix_len (λ w. ltb (last_of w) day) ws) 0)) (w ∷ ws))
+    by_test true h = h ∙ ap (λ m. fold (λ a w. max a (value_of w)) best (take (suc m) (w ∷ ws))) (sym (one-add (prefix_len (λ w. ltb (last_of w) day) ws)))
+    by_test false h = refl
+
+module _ (day : ℕ) (words : List ℕ) (best i : ℕ) where
+  pub up_to_more : i < length words → last_of (get_or words i 0) < day → up_to day (drop i words) best ≡ up_to day (drop (i + 1) words) (max best (value_of (get_or words i 0)))
+  unfolding up_to
+  up_to_more h p = rw (drop-cons words i 0 h, add-one i, lt-ltb (last_of (get_or words i 0)) day p) refl
+
+  pub up_to_last : i < length words → day ≤ last_of (get_or words i 0) → up_to day (drop i words) best ≡ max best (value_of (get_or words i 0))
+  unfolding up_to
+  up_to_last h p = rw (drop-cons words i 0 h, le-ltb (last_of (get_or words i 0)) day p) refl
+
+  pub up_to_none : length words ≤ i → up_to day (drop i words) best ≡ best
+  unfolding up_to
+  up_to_none h = rw (drop_all i words h) refl

@@ -1,5 +1,5 @@
 // The segments in use of a strip, which part all days.
-ghost use Rattle.std.specs.Prelude.{◌≡◌, ◌+◌, ◌-◌, ◌≤◌, ◌<◌, suc, max, true, false, ltb, length, fold, MatchResult};
+ghost use Rattle.std.specs.Prelude.{◌≡◌, ◌+◌, ◌-◌, ◌≤◌, ◌<◌, suc, max, true, false, ltb, length, take, fold, MatchResult};
 ghost use Rattle.std.specs.List.{prefix_len};
 ghost use Rattle.ground.specs.Boxes.{day_limit};
 ghost use Rattle.ground.specs.Facts.{LegalOn};
@@ -79,8 +79,7 @@ impl<'a> Segments<'a> {
         ensures { result ≡ greatest_on (value_on self.entry.words.now) days.low (suc days.high - days.low) }
     {
         let first = self.find(days.low);
-        let last = self.find_from(first, days.high);
-        greatest(&self.words[first..last + 1])
+        greatest_to(&self.words[first..], days.high)
     }
 }
 
@@ -94,10 +93,17 @@ fn ended(words: &[u32], day: u16) -> usize
         .count()
 }
 
-fn greatest(words: &[u32]) -> u16
-    ensures { result ≡ fold (λ best w. max best (value_of w)) 0 words.now }
+// The greatest value of those up to the first that ends on a day or later. In one pass: a question is mostly of few.
+fn greatest_to(words: &[u32], day: u16) -> u16
+    ensures { result ≡ fold (λ best w. max best (value_of w)) 0 (take (suc (prefix_len (λ w. ltb (last_of w) day) words.now)) words.now) }
 {
-    words
-        .iter()
-        .fold(0, |best, w| best.max(Segment::from(*w).value))
+    let mut best = 0;
+    for w in words {
+        let segment = Segment::from(*w);
+        best = best.max(segment.value);
+        if day <= segment.last {
+            return best;
+        }
+    }
+    best
 }
