@@ -142,11 +142,11 @@ empty_small_lem t = by_test (table_fits t)
     by_test true = refl
     by_test false = refl
 
-pub opened : (t u : List ℕ) (s small : Small) (line : List ℕ) (r : Result Unit Refusal) → s ≡ empty_small → line ≡ [] → left_of u small r ≡ cleared t s → Opens t u (record { small = small; line = line; printed = 0 })
-opened t u s small line r e l h =
+pub opened : (t u : List ℕ) (s small : Small) (x : State) (r : Result Unit Refusal) → s ≡ empty_small → left_of u small r ≡ cleared t s → x ≡ record { small = small; line = []; printed = 0 } → Opens t u x
+opened t u s small x r e h m =
     let all : left_of u small r ≡ cleared t empty_small = h ∙ ap (cleared t) e in
     let same : small ≡ empty_small = ap (λ (x : Left). x.small) all ∙ empty_small_lem t in
-    record { table = ap (λ (x : Left). x.table) all; state = λ i. record { small = same i; line = l i; printed = 0 } }
+    record { table = ap (λ (x : Left). x.table) all; state = m ∙ (λ i. record { small = same i; line = []; printed = 0 }) }
 
 -- A cleared book is ready for input, and so is what a chunk leaves once its answers are written.
 pub opened_ready : (n : ℕ) (t u out : List ℕ) (s : State) → table_fits t ≡ true → longest_answer * n ≤ length out → Opens t u s → Ready n u out s

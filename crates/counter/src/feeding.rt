@@ -6,7 +6,7 @@ ghost use Rattle.counter.specs.Counter.{line_end, ended, longer, fed, finished};
 ghost use Rattle.counter.specs.FeedSteps.{counter_of, MayEnd, Ready, Shows, Opens};
 
 use crate::answering::serve;
-use crate::{Kept, State};
+use crate::State;
 use pages::Small;
 
 // The empty book, at the start of a line. A table that is no book's stays as it is.
@@ -15,11 +15,7 @@ pub fn open(t: &mut [u16]) -> State
 {
     let mut small = Small::empty();
     let _ = index::clear(t, &mut small);
-    State {
-        small,
-        line: Kept::new(),
-        printed: 0,
-    }
+    State::of(small)
 }
 
 // A chunk of input. Each of its bytes could end a line, so the buffer has room for as many answers.
