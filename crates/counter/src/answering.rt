@@ -11,7 +11,7 @@ ghost use Rattle.index.specs.Calls.{counted};
 ghost use Rattle.counter.specs.Counter.{outcome_says, ask_says, count_says};
 ghost use Rattle.counter.specs.Steps.{Tells, Serves};
 
-use ground::Refusal;
+use ground::{Refusal, numbered};
 use lines::{Answer, Line};
 use pages::Small;
 use recording::{Outcome, Recorded};
@@ -22,7 +22,8 @@ pub fn serve(t: &mut [u16], s: &mut Small, line: &[u8], out: &mut [u8], at: usiz
     requires { (well_formed t.old s.old ≡ true) × (at + longest_answer ≤ length out.old) }
     ensures { Serves t.old t.new s.old s.new (parsed line.now) out.old out.new at result }
 {
-    lines::print(answer(t, s, line), out, at)
+    let said = answer(t, s, line);
+    lines::print(numbered(said), out, at)
 }
 
 // A call of its own for each kind of line: what they take differs, so a step handed in would say no more.

@@ -22,26 +22,31 @@ abbrev pub number_of : {T : Type 0} → Result T Refusal → ℕ
 number_of (Ok x) = 0
 number_of (Err refusal) = number refusal
 
+-- An answer, or the number of the refusal.
+abbrev pub numbered : {T : Type 0} → Result T Refusal → Result T ℕ
+numbered (Ok answer) = Ok answer
+numbered (Err refusal) = Err (number refusal)
+
 -- The numbers of the refusals tell them apart.
 by_number : ℕ → Refusal
 by_number n = get_or (no.Table ∷ no.Table ∷ no.Box ∷ no.Gust ∷ no.Damaged ∷ no.Spent ∷ no.Full ∷ no.Size ∷ no.Trailer ∷ no.Line ∷ no.Strip ∷ no.Sheet ∷ []) n no.Table
 
-numbered : (refusal : Refusal) → by_number (number refusal) ≡ refusal
+told_apart : (refusal : Refusal) → by_number (number refusal) ≡ refusal
 unfolding by_number
-numbered no.Table = refl
-numbered no.Box = refl
-numbered no.Gust = refl
-numbered no.Damaged = refl
-numbered no.Spent = refl
-numbered no.Full = refl
-numbered no.Size = refl
-numbered no.Trailer = refl
-numbered no.Line = refl
-numbered no.Strip = refl
-numbered no.Sheet = refl
+told_apart no.Table = refl
+told_apart no.Box = refl
+told_apart no.Gust = refl
+told_apart no.Damaged = refl
+told_apart no.Spent = refl
+told_apart no.Full = refl
+told_apart no.Size = refl
+told_apart no.Trailer = refl
+told_apart no.Line = refl
+told_apart no.Strip = refl
+told_apart no.Sheet = refl
 
 pub number_tells : (a b : Refusal) → number a ≡ number b → a ≡ b
-number_tells a b e = sym (numbered a) ∙ ap by_number e ∙ numbered b
+number_tells a b e = sym (told_apart a) ∙ ap by_number e ∙ told_apart b
 
 -- None of them is 0.
 pub positive : (refusal : Refusal) → 0 < number refusal

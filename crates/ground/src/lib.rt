@@ -10,4 +10,4 @@ mod refusals;
 pub use boxes::{Box, Cut, Range};
 pub use dates::Date;
 pub use gusts::Gust;
-pub use refusals::Refusal;
+pub use refusals::{Refusal, numbered};

@@ -1,6 +1,6 @@
 // Why the book says no. Refusal N is rule 7.N.
 ghost use Rattle.std.specs.Prelude.{◌≡◌};
-ghost use Rattle.ground.specs.Refusals.{number};
+ghost use Rattle.ground.specs.Refusals.{number, numbered};
 
 #[derive(Clone, Copy, Debug, PartialEq, Eq)]
 pub enum Refusal {
@@ -35,5 +35,15 @@ impl From<Refusal> for u32 {
             Refusal::Strip => 10,
             Refusal::Sheet => 11,
         }
+    }
+}
+
+// An answer, or the number of the refusal.
+pub fn numbered<T>(said: Result<T, Refusal>) -> Result<T, u32>
+    ensures { result ≡ numbered said }
+{
+    match said {
+        Ok(answer) => Ok(answer),
+        Err(refusal) => Err(u32::from(refusal)),
     }
 }

@@ -1,7 +1,7 @@
 -- The calls for C and Rust, in numbers. A call returns 0 or the refusal's number; its answer goes to numbers that the caller lends, which a refusal leaves alone.
 use Rattle.std.specs.Prelude.{Option, Some, None, Result, Ok, Err, ℕ, List, [], ◌∷◌, get_or}
 use Rattle.asking.specs.declared.Asked.{Asked}
-use Rattle.ground.specs.Refusals.{number}
+use Rattle.ground.specs.Refusals.{numbered}
 use Rattle.ground.specs.declared.refusals.Refusal.{Refusal}
 use Rattle.ground.specs.declared.boxes.Box.{Box}
 use Rattle.index.specs.Calls.{Left}
@@ -48,9 +48,12 @@ pub record Told : Type 0 where
   pub answer : List ℕ
 
 -- Rules 7.31, 7.32: a refusal returns its number, and leaves the answer's numbers as they were lent.
+abbrev pub told_in : {T : Type 0} → (T → List ℕ) → Result T ℕ → List ℕ → Told
+told_in numbers (Err number) lent = record { refusal = number; answer = lent }
+told_in numbers (Ok answer) lent = record { refusal = 0; answer = numbers answer }
+
 abbrev pub told_by : {T : Type 0} → (T → List ℕ) → Result T Refusal → List ℕ → Told
-told_by numbers (Err refusal) lent = record { refusal = number refusal; answer = lent }
-told_by numbers (Ok answer) lent = record { refusal = 0; answer = numbers answer }
+told_by numbers said = told_in numbers (numbered said)
 
 -- Rules 4.81, 4.82: recording: 0 kept, 1 cut, 2 covered; then the struck count.
 abbrev pub outcome_number : Outcome → ℕ

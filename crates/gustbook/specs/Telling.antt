@@ -7,19 +7,23 @@ use Rattle.ground.specs.declared.boxes.Box.{Box}
 use Rattle.index.specs.Calls.{Left, Saved, count_answer, count_says, counted, saved}
 use Rattle.index.specs.CallLaws.{left_of, count_is}
 use Rattle.index.specs.declared.Counts.{Counts}
-use Rattle.ground.specs.Refusals.{number_of}
+use Rattle.ground.specs.Refusals.{number_of, numbered}
 use Rattle.ground.specs.declared.refusals.Refusal.{Refusal}
 use Rattle.wide.specs.Wide.{narrow, narrowed}
 use Rattle.pages.specs.declared.Small.{Small}
 use Rattle.recording.specs.CallSteps.{reply_of, called_of}
 use Rattle.recording.specs.declared.Recorded as code-recorded
 use Rattle.rules.specs.Record.{record_into}
-use Rattle.gustbook.specs.Boundary.{small_of, numbers_of, wide_of, box_of, left_in_numbers, Told, told_by, recorded_numbers, record_told, record_leaves, ask_told, count_told}
+use Rattle.gustbook.specs.Boundary.{small_of, numbers_of, wide_of, box_of, left_in_numbers, Told, told_in, told_by, recorded_numbers, record_told, record_leaves, ask_told, count_told}
 use Rattle.index.specs.WideCalls.{record_wide, ask_wide}
 
 -- the call as a whole
 pub left_told : (u w : List ℕ) (s : Small) (e : Result Unit Refusal) (n : ℕ) (l : Left) → left_of u s e ≡ l → w ≡ numbers_of s → n ≡ number_of e → record { refusal = n; table = u; small = w } ≡ left_in_numbers l
 left_told u w s e n l h f g = ap₂ (λ m x. record { refusal = m; table = u; small = x }) g f ∙ ap left_in_numbers h
+
+-- what a call tells whose refusal is told by its number
+pub told_so : {T : Type 0} (numbers : T → List ℕ) (said : Result T Refusal) (x : Result T ℕ) (lent : List ℕ) (y : Told) → x ≡ numbered said → y ≡ told_in numbers x lent → y ≡ told_by numbers said lent
+told_so numbers said x lent y e h = h ∙ ap (λ a. told_in numbers a lent) e
 
 -- what a record tells, by the rules' reply
 recorded_told : (r : Result code-recorded.Recorded Refusal) (lent : List ℕ) → told_by recorded_numbers r lent ≡ record_told (reply_of r) lent

@@ -2,7 +2,7 @@
 ghost use Rattle.std.specs.Prelude.{◌≡◌, ℕ, List};
 ghost use Rattle.ground.specs.Refusals.{number_of};
 ghost use Rattle.recording.specs.RecordSteps.{outcome_is};
-ghost use Rattle.gustbook.specs.Boundary.{outcome_number, told_by, recorded_numbers, asked_numbers, counts_numbers};
+ghost use Rattle.gustbook.specs.Boundary.{outcome_number, told_in, recorded_numbers, asked_numbers, counts_numbers};
 
 use asking::Asked;
 use ground::Refusal;
@@ -55,15 +55,15 @@ fn outcome_number(o: Outcome) -> u32
 }
 
 // What a call with an answer returns, and the answer written.
-pub fn tell<T: InNumbers<N>, const N: usize>(said: Result<T, Refusal>, answer: &mut [u32; N]) -> u32
-    ensures { record { refusal = result; answer = answer.new } ≡ told_by T.numbers said answer.old }
+pub fn tell<T: InNumbers<N>, const N: usize>(said: Result<T, u32>, answer: &mut [u32; N]) -> u32
+    ensures { record { refusal = result; answer = answer.new } ≡ told_in T.numbers said answer.old }
 {
     match said {
         Ok(told) => {
             *answer = told.in_numbers();
             0
         }
-        Err(refusal) => u32::from(refusal),
+        Err(number) => number,
     }
 }
 

@@ -15,6 +15,7 @@ ghost use Rattle.gustbook.specs.Boundary.{small_of, box_of, left_in_numbers, rec
 
 use answers::number_of;
 pub use answers::{InNumbers, tell};
+use ground::numbered;
 pub use numbers::{box_of, put_small, small_of};
 use sheet::Row;
 pub use strips::{gust_strip_ask, gust_strip_clear, gust_strip_record};
@@ -43,7 +44,7 @@ pub fn gust_record(
     let mut s = small_of(small);
     let said = recording::record(table, &mut s, box_of(place), narrow(gust));
     put_small(small, s);
-    tell(said, answer)
+    tell(numbered(said), answer)
 }
 
 // Refusals 1, 2 and 4. The answer: 1 and the gust, or 0 and 0 for nothing; the pages opened.
@@ -51,7 +52,7 @@ pub fn gust_ask(table: &[u16], small: &[u32; 5], place: &[u32; 6], answer: &mut 
     ensures { record { refusal = result; answer = answer.new } ≡ ask_told (asked table.now (small_of small.now) (box_of place.now)) answer.old }
 {
     let said = asking::ask(table, small_of(small), box_of(place));
-    tell(said, answer)
+    tell(numbered(said), answer)
 }
 
 // Refusal 11, of a sheet of more than 32 rows; 1, 2 and 4 go into the rows. An answer: as for gust_ask, and the refusal's number or 0 before it.
@@ -66,7 +67,7 @@ pub fn gust_count(table: &[u16], small: &[u32; 5], answer: &mut [u32; 4]) -> u32
     ensures { record { refusal = result; answer = answer.new } ≡ count_told (counted table.now (small_of small.now)) answer.old }
 {
     let said = index::count(table, small_of(small));
-    tell(said, answer)
+    tell(numbered(said), answer)
 }
 
 // Refusals 1, 7 and 4.

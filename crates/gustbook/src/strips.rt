@@ -5,7 +5,7 @@ ghost use Rattle.wide.specs.Wide.{narrow};
 ghost use Rattle.gustbook.specs.StripBoundary.{days_of, narrow_days, greatest_numbers, strip_told};
 
 use crate::answers::{InNumbers, number_of, tell};
-use ground::{Gust, Range};
+use ground::{Gust, Range, numbered};
 use strip::Strip;
 use wide::narrow;
 
@@ -49,7 +49,7 @@ pub fn gust_strip_ask(segments: &[u32], count: u32, days: &[u32; 2], answer: &mu
     ensures { record { refusal = result; answer = answer.new } ≡ strip_told (asked (record { words = segments.now; count = count }) (days_of days.now)) answer.old }
 {
     let said = strip::ask(segments, Strip { count }, days_of(days));
-    tell(said, answer)
+    tell(numbered(said), answer)
 }
 
 fn days_of(days: &[u32; 2]) -> Range

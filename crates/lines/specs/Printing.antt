@@ -1,7 +1,7 @@
 -- RULES.md, section 8: what is printed for an answer.
 use Rattle.std.specs.Prelude.{ℕ, zero, suc, ◌+◌, ◌/◌, ◌%◌, Bool, cond, List, [], ◌∷◌, ◌++◌, ◌≡◌, leb, ltb, length, take, drop, Result, Ok, Err}
 use Prim.Native.String.{String}
-use Rattle.ground.specs.Refusals.{number}
+use Rattle.ground.specs.Refusals.{numbered as in_numbers}
 use Rattle.ground.specs.declared.refusals.Refusal.{Refusal}
 use Rattle.lines.specs.Lines.{text}
 use Rattle.lines.specs.declared.printing.Answer.{Answer}
@@ -25,8 +25,7 @@ line_end = 10 ∷ []
 
 -- Rule 8.24: a refusal is told by its number.
 abbrev pub numbered : Result Answer Refusal → Result Answer ℕ
-numbered (Ok answer) = Ok answer
-numbered (Err refusal) = Err (number refusal)
+numbered = in_numbers
 
 -- Rules 8.21, 8.22, 8.23, 8.24: a record's answer, a question's, a count's, and a refusal.
 unfoldable pub printed : Result Answer ℕ → List ℕ

@@ -1,11 +1,9 @@
 // Printing an answer into a lent buffer, from a place on.
 ghost use Rattle.std.specs.Prelude.{◌≡◌, ◌+◌, ◌<◌, ◌≤◌, length};
-ghost use Rattle.lines.specs.Printing.{numbered, longest_answer, Prints};
+ghost use Rattle.lines.specs.Printing.{longest_answer, Prints};
 ghost use Rattle.lines.specs.Filling.{Said};
 
 use crate::text::Text;
-use ground::Refusal;
-
 // What the book says to a line.
 #[derive(Clone, Copy, Debug, PartialEq, Eq)]
 pub enum Answer {
@@ -61,9 +59,9 @@ impl Answer {
     }
 }
 
-// Prints an answer at a place and gives the place after it; nothing where the longest answer would not fit.
-pub fn print(said: Result<Answer, Refusal>, out: &mut [u8], at: usize) -> usize
-    ensures { Prints (numbered said) out.old out.new at result }
+// Prints an answer, or a refusal's number, at a place and gives the place after it; nothing where the longest answer would not fit.
+pub fn print(said: Result<Answer, u32>, out: &mut [u8], at: usize) -> usize
+    ensures { Prints said out.old out.new at result }
 {
     if out.len().saturating_sub(at) < Answer::LONGEST {
         return at;
@@ -75,14 +73,14 @@ pub fn print(said: Result<Answer, Refusal>, out: &mut [u8], at: usize) -> usize
 }
 
 // All of the line but its end.
-fn put(said: Result<Answer, Refusal>, line: &mut Text<'_>)
+fn put(said: Result<Answer, u32>, line: &mut Text<'_>)
     requires { line.old.at + longest_answer ≤ length line.old.out.now }
     ensures same_buffer { line.new.out.ghost_name ≡ line.old.out.ghost_name }
-    ensures said { Said (numbered said) line.old line.new }
+    ensures said { Said said line.old line.new }
     ensures most { line.new.at < line.old.at + longest_answer }
 {
     match said {
         Ok(answer) => answer.put(line),
-        Err(refusal) => line.push_labelled(b"refused ", u32::from(refusal)),
+        Err(number) => line.push_labelled(b"refused ", number),
     }
 }

@@ -8,6 +8,7 @@ ghost use Rattle.gustbook.specs.Boundary.{small_of, box_of, record_leaves};
 ghost use Rattle.rules.specs.Record.{record_into};
 ghost use Rattle.wellformed.specs.WellFormed.{well_formed};
 
+use ground::numbered;
 use gustbook::{box_of, put_small, small_of, tell};
 use wide::narrow;
 
@@ -26,5 +27,5 @@ pub extern "C" fn gust_probe_record_sound(
     let mut s = small_of(small);
     let said = recording::record_sound(table, &mut s, box_of(place), narrow(gust));
     put_small(small, s);
-    tell(said, answer)
+    tell(numbered(said), answer)
 }
