@@ -88,7 +88,10 @@ impl Places {
     {
         let places = &mut self.at;
         let i = places[at];
-        places.copy_within(at + 1..self.count, at);
+        // One by one: `copy_within` would want `memmove` of the program that links the archive.
+        for k in at..self.count - 1 {
+            places[k] = places[k + 1];
+        }
         self.count -= 1;
         places[self.count] = 0;
         i
