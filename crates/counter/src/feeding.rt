@@ -5,8 +5,8 @@ ghost use Rattle.std.specs.Prelude.{◌≡◌, ◌==◌, length, position};
 ghost use Rattle.counter.specs.Counter.{line_end, ended, longer, fed, finished};
 ghost use Rattle.counter.specs.FeedSteps.{counter_of, MayEnd, Ready, Shows, Opens};
 
-use crate::answering::serve;
 use crate::State;
+use crate::answering::serve;
 use pages::Small;
 
 // The empty book, at the start of a line. A table that is no book's stays as it is.

@@ -1,7 +1,8 @@
 -- Step 1 in the code's order: entries struck one after another, and the rest of their page closed up.
 use Rattle.std.specs.Prelude.{ℕ, zero, suc, ◌+◌, ◌-◌, ◌≤◌, ◌<◌, min, Bool, true, false, not, List, [], ◌∷◌, ◌++◌, map, ◌≡◌, refl, length, get_or, set, take}
-use Rattle.std.proofs.Common.{append-nil, sym, ap, ap₂, ◌∙◌, add-one, arith, length-take, take-suc, take_all, ⊎_elim}
-use Rattle.std.proofs.lemmas.List.{map-append, take-map}
+use Rattle.std.proofs.Math.ListN.{length-map}
+use Rattle.std.proofs.Common.{ext_get_or, append-nil, sym, ap, ap₂, ◌∙◌, add-one, arith, length-take, take-suc, take_all, ⊎_elim}
+use Rattle.std.proofs.lemmas.List.{map-append, take-map, get_or-map}
 use Rattle.ground.specs.declared.boxes.Box.{Box}
 use Rattle.ground.specs.Tests.{below_or_not}
 use Rattle.pages.specs.Layout.{page_entries, zero_box, zero_entry, free_page, pages_of}
@@ -103,6 +104,21 @@ freed_under (suc n) k p t u w cs d e f l =
 pub freed_all : (n k i c p : ℕ) (t u w cs : List ℕ) → (n ≡ 0 → ⊥) → p ≡ c → cs ≡ map child_of (in_use (page (pages_of t) p)) → length cs ≤ i → Frees t u k (strike_all (strike_one (n - 1)) (pages_of t) (map naming (take i cs)))
     → Leaves u w (set (pages_of u) p free_page) → Frees t w k (strike_one n (pages_of t) (naming c))
 freed_all n k i c p t u w cs d s e m f l = rw (← s) (freed_under n k p t u w cs d e (rw (take_all i cs m) at f) l)
+
+-- a leaf goes: its records are as many as it has in use
+pub leaf_freed : (n k c p : ℕ) (t w : List ℕ) → n ≡ 1 → p ≡ c → k ≡ length (in_use (page (pages_of t) p)) → k ≤ page_entries → Leaves t w (set (pages_of t) p free_page) → Frees t w k (strike_one n (pages_of t) (naming c))
+leaf_freed n k c p t w one s e m l =
+    let cs = map child_of (in_use (page (pages_of t) p)) in
+    let all = all_of_leaf (pages_of t) (map naming cs) in
+    let long : length (map naming cs) ≡ k = length-map cs naming ∙ length-map (in_use (page (pages_of t) p)) child_of ∙ sym e in
+    let freed : Frees t t k (strike_all (strike_one zero) (pages_of t) (map naming cs)) =
+    record { same_length = refl; pages_are = sym (ap (λ (x : Struck). x.pages) all); struck_is = omega (arith, long, ap (λ (x : Struck). x.records) all, m) } in
+    rw (one, ← s) (freed_under 1 k p t t w cs (λ z. absurd (omega arith)) refl freed l)
+
+-- the children that a page names, read one by one
+pub children_read : (x : Page) (cs : List ℕ) → length cs ≡ page_entries → length x.entries ≡ page_entries → ((i : ℕ) → i < page_entries → get_or cs i 0 ≡ (get_or x.entries i zero_entry).child) → cs ≡ map child_of x.entries
+children_read x cs long eight each =
+    ext_get_or 0 cs (map child_of x.entries) (long ∙ sym eight ∙ sym (length-map x.entries child_of)) (λ i h. each i (omega arith) ∙ sym (get_or-map child_of x.entries i zero_entry 0 (omega arith)))
 
 pub select_more : (f : Entry → Bool) (xs : List Entry) (e : Entry) → select f (xs ++ (e ∷ [])) ≡ select f xs ++ cons_if (f e) e []
 unfolding select

@@ -25,6 +25,12 @@ page_lying t p x h = sym (get_or_from_slice_get (pages_of t) p x free_page h)
 pub page_lacking : (t : List ℕ) (p : ℕ) → slice_get (pages_of t) p ≡ None → free_page ≡ page (pages_of t) p
 page_lacking t p h = sym (ap (λ o. unwrap_or o free_page) h) ∙ unwrap_or-slice_get (pages_of t) p free_page
 
+-- it has eight entries
+pub page_lying_eight : (t : List ℕ) (p : ℕ) (x : Page) → slice_get (pages_of t) p ≡ Some x → length x.entries ≡ page_entries
+page_lying_eight t p x h =
+    let inside : p < pages_in t = omega (arith, slice_get_within (pages_of t) p x h, pages_length t) in
+    ap (λ (y : Page). length y.entries) (page_lying t p x h ∙ pages_at t p inside) ∙ page_eight t p
+
 -- a page that is 0 throughout is a free page
 pub default_page : (x : Page) (P : Entry → Type 0) → ((e : Entry) → P e → e ≡ zero_entry) → x.level ≡ 0 → x.count ≡ 0 → AllOfLen P x.entries page_entries → x ≡ free_page
 default_page x P zero l n h =

@@ -11,12 +11,16 @@ use crate::news::News;
 use crate::table::{blank_page, load, release, store, used_at};
 use ground::Box;
 use pages::{Entry, Page, PageAt, Small};
+use std::array;
 
 // The pages that a page's entries name. Held while they are freed, since a spoilt table may name the page itself.
 fn children_of(t: &[u16], p: usize) -> [u16; Page::ENTRIES]
     ensures { result ≡ map child_of (page (pages_of t.now) p).entries }
 {
-    load(t, p).entries.map(|e| e.child)
+    let Some(page) = PageAt::get(t, p) else {
+        return [0; Page::ENTRIES];
+    };
+    array::from_fn(|i| page.entry(i).child())
 }
 
 // So many more struck.
@@ -35,9 +39,15 @@ fn free_under(t: &mut [u16], n: usize, child: u16) -> u32
         return 1;
     }
     let p = usize::from(child);
+    let used = used_at(t, p);
+    if n == 1 {
+        // A leaf's records are counted at once.
+        release(t, p);
+        return used as u32;
+    }
     let children = children_of(t, p);
     let mut struck = 0;
-    for c in &children[..used_at(t, p)] {
+    for c in &children[..used] {
         struck = more_struck(struck, free_under(t, n - 1, *c));
     }
     release(t, p);
