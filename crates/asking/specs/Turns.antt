@@ -58,7 +58,7 @@ module _ (ps : List Page) (level least p opened l n m : ℕ) (x : Page) (h : sli
   there : page ps p ≡ x
   there = get_or_from_slice_get ps p x free_page h
 
-  may : leb 1 level && eqb l level && leb least n && leb n page_entries && ltb opened m ≡ may_open ps level least p opened
+  pub may : leb 1 level && eqb l level && leb least n && leb n page_entries && ltb opened m ≡ may_open ps level least p opened
   unfolding may_open
   may =
       rw (pl, pn, pm, there, lt-ltb p (length ps) (slice_get_within ps p x h))
@@ -168,7 +168,7 @@ order_refused lower q (e ∷ es) = order_refused lower q es
 pub order_fails : (lower : ℕ → ℕ → ℕ → Search) (q : Box) (es rest : List Entry) (e : Entry) (s v : Search) → es ≡ e ∷ rest → in_order (search_entry lower q) es s ≡ v → refused ≡ search_entry lower q e s → refused ≡ v
 order_fails lower q es rest e s v p h k = sym (order_refused lower q rest) ∙ order_turn (search_entry lower q) es rest e s v refused p h k
 
-index_one : (lower : ℕ → ℕ → ℕ → Search) (q : Box) (level : ℕ) → 2 ≤ level → search_one lower q (level - 1) ≡ search_entry lower q
+pub index_one : (lower : ℕ → ℕ → ℕ → Search) (q : Box) (level : ℕ) → 2 ≤ level → search_one lower q (level - 1) ≡ search_entry lower q
 unfolding search_one
 index_one lower q zero h = absurd (omega arith)
 index_one lower q (suc zero) h = absurd (omega arith)

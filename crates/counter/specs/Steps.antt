@@ -73,9 +73,9 @@ module _ (t : List ℕ) (s : Small) (l : Result Line Refusal) where
   unfolding answer_to after_all calls_of
   told_ask x said e h = record { answer = rw e h; book = rw e }
 
-  pub told_count : (a : Answer) → l ≡ Ok typed.Count → Ok a ≡ count_says (counted t s) → Tells t t s s l (Ok a)
+  pub told_count : (said : Result Answer Refusal) → l ≡ Ok typed.Count → numbered said ≡ count_says (counted t s) → Tells t t s s l said
   unfolding answer_to after_all calls_of
-  told_count a e h = record { answer = rw e h; book = rw e }
+  told_count said e h = record { answer = rw e h; book = rw e }
 
 -- a line answered and its answer printed
 pub served_line :

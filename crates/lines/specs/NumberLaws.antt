@@ -32,7 +32,7 @@ decimal_some m n =
     (λ (h : 10 ≤ n). rw (more_digits m n h) (omega (arith, length-append (decimal_of m (n / 10)) ((48 + n % 10) ∷ []))))
     (below_or_not n 10)
 
-tenth : (k n : ℕ) → n < 10 ^ suc k → n / 10 < 10 ^ k
+pub tenth : (k n : ℕ) → n < 10 ^ suc k → n / 10 < 10 ^ k
 tenth k n h = omega (arith, rw pow-succ' at h)
 
 decimal_needs : (m k n : ℕ) → n < 10 ^ suc k → length (decimal_of m n) ≤ suc k

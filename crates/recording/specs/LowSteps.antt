@@ -53,14 +53,14 @@ module _ (ps qs : List Page) (p n level : ℕ) (y : Page) (e : qs ≡ set ps p y
           ap (λ m. is_free (page (set ps p y) m)) same ∙ ap is_free (get_or-set_same ps p y free_page (omega (arith, h.most))) ∙ ap (λ m. eqb m 0) d ∙ ne_eqb level 0 some
       by_test false g = ap is_free (get_or-set_other ps p k y free_page (eqb-false k p g)) ∙ h.others k l (eqb-false k p g)
 
-  found_lowest : (start : ℕ) (f : Option ℕ) → start ≡ cond (eqb level 0) 0 n → f ≡ lowest_from start (drop start qs) → f ≡ lowest_free qs
+  pub found_lowest : (start : ℕ) (f : Option ℕ) → start ≡ cond (eqb level 0) 0 n → f ≡ lowest_from start (drop start qs) → f ≡ lowest_free qs
   found_lowest start f s g = g ∙ ap (λ m. lowest_from m (drop m qs)) s ∙ by_test (eqb level 0) refl
     where
       by_test : (b : Bool) → eqb level 0 ≡ b → lowest_from (cond b 0 n) (drop (cond b 0 n) qs) ≡ lowest_free qs
       by_test true k = refl
       by_test false k = lowest_past qs n (none_below (eqb-false level 0 k))
 
-first_level : (h : Halves) (level : ℕ) (xs : TwoLists) → h ≡ pages_from level xs → h.first.level ≡ level
+pub first_level : (h : Halves) (level : ℕ) (xs : TwoLists) → h ≡ pages_from level xs → h.first.level ≡ level
 unfolding page_from
 first_level h level xs e = ap (λ (g : Halves). g.first.level) e
 

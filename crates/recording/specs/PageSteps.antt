@@ -36,11 +36,11 @@ unfolding page_from
 level_is x level es e = ap (λ (y : Page). y.level) e
 
 -- a page of k entries so far, the others 0
-record Filled (es : List Entry) (entries : List Entry) (k : ℕ) : Type 0 where
+pub record Filled (es : List Entry) (entries : List Entry) (k : ℕ) : Type 0 where
   count_is : k ≡ length es
   entries_are : entries ≡ es ++ replicate (page_entries - k) zero_entry
 
-filled_more : (es entries : List Entry) (k : ℕ) (e : Entry) → k < page_entries → Filled es entries k → Filled (es ++ (e ∷ [])) (set entries k e) (k + 1)
+pub filled_more : (es entries : List Entry) (k : ℕ) (e : Entry) → k < page_entries → Filled es entries k → Filled (es ++ (e ∷ [])) (set entries k e) (k + 1)
 filled_more es entries k e l h =
     let z : page_entries - k ≡ suc (page_entries - (k + 1)) = omega arith in
     record {
@@ -51,7 +51,7 @@ filled_more es entries k e l h =
           ∙ sym (append_assoc es (e ∷ []) (replicate (page_entries - (k + 1)) zero_entry));
     }
 
-filled_page : (es : List Entry) (level k : ℕ) (entries : List Entry) → Filled es entries k → record { level = level; count = k; entries = entries } ≡ page_from level es
+pub filled_page : (es : List Entry) (level k : ℕ) (entries : List Entry) → Filled es entries k → record { level = level; count = k; entries = entries } ≡ page_from level es
 unfolding page_from
 filled_page es level k entries h = cc
 

@@ -152,6 +152,11 @@ pub record RootsIf (fits : Type 0) (before after : List ℕ) (root : ℕ) (x : R
 pub record Above (ps : List Page) (r q : ℕ) (y : Page) : Type 0 where
   pub is : LevelFits ps r → y ≡ page_from ((page ps r).level + 1) (summary_of r (page ps r) ∷ summary_of q (page ps q) ∷ [])
 
-pub above_made : (ps : List Page) (r q l m : ℕ) (x : Page) (a b : Entry) → l ≡ (page ps r).level → x ≡ free_page → m ≡ min (l + 1) 65_535 → a ≡ summary_of r (page ps r) → b ≡ summary_of q (page ps q)
+pub above_made : (ps : List Page) (r q l : ℕ) (x old : Page) (a b : Entry) → old ≡ page ps r → x ≡ free_page → (old.level < 65_535 → l ≡ old.level + 1) → a ≡ summary_of r (page ps r) → b ≡ summary_of q (page ps q) → Above ps r q (record { level = l; count = 2; entries = set (set x.entries 0 a) 1 b })
+above_made ps r q l x old a b o e h f g =
+    let m : old.level ≡ (page ps r).level = ap (λ (y : Page). y.level) o in
+    record { is = λ k. above_is ps r q l a b (record { level = l; count = 2; entries = set (set x.entries 0 a) 1 b }) (h (omega arith) ∙ ap (λ n. n + 1) m) f g (two_entries l x a b e) }
+
+pub above_at_most : (ps : List Page) (r q l m : ℕ) (x : Page) (a b : Entry) → l ≡ (page ps r).level → x ≡ free_page → m ≡ min (l + 1) 65_535 → a ≡ summary_of r (page ps r) → b ≡ summary_of q (page ps q)
     → Above ps r q (record { level = m; count = 2; entries = set (set x.entries 0 a) 1 b })
-above_made ps r q l m x a b e h s f g = record { is = λ k. above_is ps r q m a b (record { level = m; count = 2; entries = set (set x.entries 0 a) 1 b }) (omega arith) f g (two_entries m x a b h) }
+above_at_most ps r q l m x a b e h s f g = above_made ps r q m x (page ps r) a b refl h (λ k. omega arith) f g

@@ -17,9 +17,10 @@ pub leaf_scanned : (v : ℕ) (e : Entry) (s r : Sought) → r ≡ candidate (leb
 unfolding scan_entry
 leaf_scanned v e s r h = h
 
-pub index_scanned : (v : ℕ) (e : Entry) (s m r : Sought) → m ≡ candidate (leb v e.gust) e.strongest s → r ≡ candidate (leb v e.weakest) e.union m → r ≡ scan_entry 1 v e s
+pub index_scanned : (n v : ℕ) (e : Entry) (s m r : Sought) → 0 < n → m ≡ candidate (leb v e.gust) e.strongest s → r ≡ candidate (leb v e.weakest) e.union m → r ≡ scan_entry n v e s
 unfolding scan_entry
-index_scanned v e s m r p q = q ∙ ap (candidate (leb v e.weakest) e.union) p
+index_scanned zero v e s m r o p q = absurd (omega arith)
+index_scanned (suc n) v e s m r o p q = q ∙ ap (candidate (leb v e.weakest) e.union) p
 
 -- one entry more
 one_more : (n v : ℕ) (es : List Entry) (e : Entry) (s : Sought) → scan n v (es ++ (e ∷ [])) s ≡ scan_entry n v e (scan n v es s)

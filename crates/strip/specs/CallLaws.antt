@@ -63,7 +63,7 @@ module _ (r : Raise) (made : List ℕ) (long : length made ≡ 1_026) (i : ℕ) 
   past : r.days.high < first_day (words_of r) (suc i)
   past = omega (arith, first_next (words_of r) i, f.to, r.lawful)
 
-  walk_begins : (place days next : ℕ) → place ≡ 1_026 - (length (words_of r) - suc i) → days ≡ first_day (words_of r) (suc i) → next ≡ value_on (words_of r) (first_day (words_of r) (suc i))
+  pub walk_begins : (place days next : ℕ) → place ≡ 1_026 - (length (words_of r) - suc i) → days ≡ first_day (words_of r) (suc i) → next ≡ value_on (words_of r) (first_day (words_of r) (suc i))
       → Walked r (take place made ++ drop (suc i) (words_of r)) (record { segments = suc i; days = days; place = place; next = next })
   walk_begins place days next ep ed en =
       let words = words_of r in

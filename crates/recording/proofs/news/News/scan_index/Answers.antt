@@ -34,6 +34,6 @@ loop-i-preserved c =
           let weak : c.weakest.result < v = grind (arith, nat_tests, w.if-self-weakest.false) in
           ap sought_of w.found-is ∙ weak_passed v _ _ _ _ c.weakest.ensures weak
     ] in
-    let scanned = index_scanned v e s _ _ m r in
+    let scanned = index_scanned 1 v e s _ _ (omega arith) m r in
     scanned ∙ scan_more 1 v c.loop-i.i (in_use c.args.page.now) e (sought_of c.args.s) s
     (omega arith) (c.entry-entry.ensures ∙ sym (used_entry c.args.page.now c.loop-i.i (omega arith))) c.loop-i.invariant
