@@ -2,11 +2,11 @@
 use Rattle.std.specs.List.{copy_within}
 use Rattle.std.proofs.Common.{◌≡◌, ◌≢◌, ◌∙◌, ℕ, suc, ◌+◌, ◌-◌, ◌<◌, ◌≤◌, ◌⊎◌, List, [], ◌∷◌, ◌++◌, length, get_or, take, drop, set, replicate, refl, sym, ap, ap₂, arith, length-set, length-drop, length-append}
 use Rattle.std.proofs.lemmas.List.{take-append-drop, get_or-drop, get_or-take, get_or_append_left, get_or-append_right, get_or-set_other}
-use Rattle.std.proofs.lemmas.List.Edits.{length-paste, paste_more}
+use Rattle.std.proofs.lemmas.List.Edits.{length-paste, take-paste, paste_more}
 use Rattle.std.proofs.lemmas.Grind.{get_or-set_at}
 use Rattle.std.proofs.lemmas.Bool.{cases_lt, cases_eq}
 use Rattle.std.proofs.Math.Logic.{◌⊎◌.inl, ◌⊎◌.inr}
-use Rattle.std.proofs.Math.Seq.{length-take-le, paste-zero}
+use Rattle.std.proofs.Math.Seq.{length-take-le}
 use lib.Seq.{paste}
 use Rattle.split.specs.Room.{room_of, ArePlaces}
 
@@ -87,25 +87,32 @@ module _ (at : List ℕ) (count : ℕ) (h : ArePlaces at count) where
         rest k p (inl q) = given_up k q
         rest k p (inr q) = get_or-set_other (copy_within at j count i) (count - 1) k 0 0 q ∙ after_it at (drop j at) i (count - j) room some k (omega arith) ∙ h.rest k (omega arith)
 
--- Closing up, one after the other: so many of those from a place on stand one place earlier.
-abbrev pub shifted : List ℕ → ℕ → ℕ → List ℕ
-shifted xs at n = paste xs at (drop (at + 1) xs) n
+-- Those of another array taken over, one after the other, behind the places of a first.
+abbrev pub joined : List ℕ → ℕ → List ℕ → ℕ → List ℕ
+joined xs n ys m = paste xs n ys m
 
-pub shifted_none : (xs : List ℕ) (at : ℕ) → xs ≡ shifted xs at (at - at)
-shifted_none xs at = let none : 0 ≡ at - at = omega arith in paste-zero xs at (drop (at + 1) xs) ∙ ap (shifted xs at) none
+pub joined_more : (xs now ys : List ℕ) (n k : ℕ) → now ≡ joined xs n ys k → n + k < length xs → k < length ys → set now (n + k) (get_or ys k 0) ≡ joined xs n ys (k + 1)
+joined_more xs now ys n k e p q = ap (λ (l : List ℕ). set l (n + k) (get_or ys k 0)) e ∙ paste_more xs n ys k 0 p q
 
-pub shifted_more : (xs now : List ℕ) (at k : ℕ) → now ≡ shifted xs at (k - at) → at ≤ k → k + 1 < length xs → set now k (get_or now (k + 1) 0) ≡ shifted xs at (k + 1 - at)
-shifted_more xs now at k e p q =
-    let n = k - at in
-    let rest = drop (at + 1) xs in
-    let long = length-drop (at + 1) xs in
-    let place : at + n ≡ k = omega arith in
-    let there : at + 1 + n ≡ k + 1 = omega arith in
-    let more : n + 1 ≡ k + 1 - at = omega arith in
-    let next : get_or now (k + 1) 0 ≡ get_or rest n 0 =
-    ap (λ (l : List ℕ). get_or l (k + 1) 0) e ∙ after_it xs rest at n (omega arith) (omega arith) (k + 1) (omega arith) ∙ sym (get_or-drop (at + 1) xs n 0 ∙ ap (λ (j : ℕ). get_or xs j 0) there) in
-    ap₂ (λ (l : List ℕ) (v : ℕ). set l k v) e next ∙ ap (λ (j : ℕ). set (shifted xs at n) j (get_or rest n 0)) (sym place)
-    ∙ paste_more xs at rest n 0 (omega arith) (omega arith) ∙ ap (shifted xs at) more
+pub joined_first : (xs ys : List ℕ) (n m : ℕ) → n ≤ length xs → m ≤ length ys → take (n + m) (joined xs n ys m) ≡ take n xs ++ take m ys
+joined_first xs ys n m p q = take-paste xs n ys m p q
 
-pub shifted_all : (xs now : List ℕ) (at k count : ℕ) → now ≡ shifted xs at (k - at) → k ≡ count - 1 → now ≡ copy_within xs (at + 1) count at
-shifted_all xs now at k count e f = let all : k - at ≡ count - (at + 1) = omega arith in e ∙ ap (shifted xs at) all
+pub joined_places : (xs ys : List ℕ) (n m : ℕ) → ArePlaces xs n → ArePlaces ys m → n + m ≤ 9 → ArePlaces (joined xs n ys m) (n + m)
+joined_places xs ys n m h g most =
+    record {
+      few = most;
+      long = length-paste xs n ys m room some ∙ h.long;
+      within = λ k p. by_place k p (cases_lt k n) (cases_lt k (n + m));
+      rest = λ k p. after_it xs ys n m room some k p ∙ h.rest k (omega arith);
+    }
+  where
+    room : n + m ≤ length xs
+    room = omega (arith, h.long, most)
+
+    some : m ≤ length ys
+    some = omega (arith, g.long, g.few)
+
+    by_place : (k : ℕ) → k < 9 → (k < n) ⊎ (n ≤ k) → (k < n + m) ⊎ (n + m ≤ k) → get_or (joined xs n ys m) k 0 < 9
+    by_place k p (inl q) r = omega (arith, before_it xs ys n m room some k q, h.within k p)
+    by_place k p (inr q) (inl r) = omega (arith, within_it xs ys n m room some k q r, g.within (k - n) (omega arith))
+    by_place k p (inr q) (inr r) = omega (arith, after_it xs ys n m room some k r, h.within k p)

@@ -74,9 +74,12 @@ impl Places {
         requires { length self.old + length others.old ≤ 9 }
         ensures { (self.new ≡ self.old ++ others.old) × (others.new ≡ []) }
     {
-        let end = self.count + others.count;
-        self.at[self.count..end].copy_from_slice(&others.at[..others.count]);
-        self.count = end;
+        // One by one: a copy within one group of groups would want `memmove` of the program that links the archive.
+        let places = &mut self.at;
+        for k in 0..others.count {
+            places[self.count + k] = others.at[k];
+        }
+        self.count += others.count;
         others.at = [0; Nine::ENTRIES];
         others.count = 0;
     }
@@ -88,10 +91,7 @@ impl Places {
     {
         let places = &mut self.at;
         let i = places[at];
-        // One by one: `copy_within` would want `memmove` of the program that links the archive.
-        for k in at..self.count - 1 {
-            places[k] = places[k + 1];
-        }
+        places.copy_within(at + 1..self.count, at);
         self.count -= 1;
         places[self.count] = 0;
         i
